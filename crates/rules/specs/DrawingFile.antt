@@ -1,0 +1,124 @@
+-- "Drawing file, finished drawings only": 44 48, n, s, width, height; points; lines; 45 4E.
+use Prim.Native.Nat.{ℕ, zero, suc, _-_, _*_, max}
+use mathlib.Core.Bool.{Bool, not, _&&_}
+use mathlib.Core.List.{List, [], _∷_, _++_}
+use lib.ListN.{getD}
+use lib.Dec.{eqb, ltb}
+use Rattle.rules.specs.declared.Line.{Line}
+use Rattle.rules.specs.declared.Place.{Place}
+use Rattle.rules.specs.declared.Entry.{Entry}
+use Rattle.rules.specs.declared.Refusal.the-variants.{OutOfRange, OtherDrawing, Unfinished}
+use Rattle.rules.specs.Basics.{if_then_else_, between}
+use Rattle.rules.specs.Refusals.{Result, good, refused, _>>_, _>>=_, refuseIf, placed}
+use Rattle.rules.specs.Points.{Drawing, W}
+use Rattle.rules.specs.Ports.{bendPlace}
+use Rattle.rules.specs.Adding.{addEntries}
+use Rattle.rules.specs.Records.{Found, Several, several, readRecord, readEnd, fromStart, written, drawingHead, pointPlace, lineShape, endShape}
+use Rattle.rules.specs.OrderFile.{startTest, startWith, readOrder, writeOrder}
+
+-- ---- writing: "Every length and coordinate is written times s."
+
+-- "height (the largest y)"
+abbrev pub highest : List ℕ → ℕ
+highest [] = 0
+highest (y ∷ ys) = max y (highest ys)
+
+abbrev pub writePoints : ℕ → List ℕ → List ℕ → List ℕ
+writePoints s [] ys = []
+writePoints s (x ∷ xs) [] = []
+writePoints s (x ∷ xs) (y ∷ ys) = written pointPlace (s * x ∷ s * y ∷ []) ++ writePoints s xs ys
+
+-- "later point, earlier point, bend x, bend y, 1 for cut or 0 for guide"
+abbrev pub lineWords : ℕ → Line → Place → List ℕ
+lineWords s l b = l .later ∷ l .earlier ∷ s * b .x ∷ s * b .y ∷ (if l .cut then 1 else 0) ∷ []
+
+abbrev pub writeLines : Drawing → List Line → List ℕ
+writeLines d [] = []
+writeLines d (l ∷ ls) = written lineShape (lineWords (d .s) l (bendPlace d l)) ++ writeLines d ls
+
+unfoldable pub drawingBytes : Drawing → List ℕ
+drawingBytes d =
+    written drawingHead (d .n ∷ d .s ∷ d .s * W d ∷ d .s * highest (d .ys) ∷ []) ++
+    (writePoints (d .s) (d .xs) (d .ys) ++
+    (writeLines d (d .lines) ++ written endShape []))
+
+-- 22: "drawing wanted while k < n"
+abbrev pub writeDrawing : Drawing → Result (List ℕ)
+writeDrawing d = do
+  refuseIf (ltb (d .k) (d .n)) Unfinished 0
+  good (drawingBytes d)
+
+-- an order file into its drawing file
+abbrev pub drawFile : List ℕ → Result (List ℕ)
+drawFile input = readOrder input >>= writeDrawing
+
+-- ---- reading
+
+-- a line's later point, and the entry that it stands for:
+-- "the earlier point is a plain 16-bit number without a guide bit, and any last field but 0 is taken as cut"
+abbrev pub laterIn : Found → ℕ
+laterIn f = getD (f .words) 0 0
+
+abbrev pub entryIn : Found → Entry
+entryIn f = record { point = getD (f .words) 1 0; cut = not (eqb (getD (f .words) 4 0) 0) }
+
+-- "each point's group of lines: the lines in succession that name it as later, perhaps none"; and the lines behind the group
+abbrev pub group : ℕ → List Found → List Entry
+group p [] = []
+group p (f ∷ fs) = if eqb (laterIn f) p then entryIn f ∷ group p fs else []
+
+abbrev pub behind : ℕ → List Found → List Found
+behind p [] = []
+behind p (f ∷ fs) = if eqb (laterIn f) p then behind p fs else f ∷ fs
+
+-- "place, the offset where the group starts or would start": the next line's, or that of the end record
+abbrev pub groupPlace : ℕ → List Found → ℕ
+groupPlace end [] = end
+groupPlace end (f ∷ fs) = f .place
+
+-- the groups of c more points
+unfoldable pub judgeRest : ℕ → ℕ → Drawing → List Found → Result Drawing
+judgeRest zero end d fs = good d
+judgeRest (suc c) end d fs = do
+  e ← placed (groupPlace end fs) (addEntries d (group (suc (d .k)) fs))
+  judgeRest c end e (behind (suc (d .k)) fs)
+
+-- "4 to 9 on each point's group of lines in turn"
+unfoldable pub judgeLines : ℕ → ℕ → ℕ → List Found → Result Drawing
+judgeLines n s end fs = do
+  startTest [] (group 1 fs) (groupPlace end fs)
+  let gs = behind 1 fs
+  startTest (1 ∷ []) (group 2 gs) (groupPlace end gs)
+  let hs = behind 2 gs
+  startTest (1 ∷ 2 ∷ []) (group 3 hs) (groupPlace end hs)
+  judgeRest (n - 3) end (startWith n s (group 2 gs) (group 3 hs)) (behind 3 hs)
+
+-- 11: "the first differing byte" of bytes i, i + 1, ..
+abbrev pub compareBytes : ℕ → List ℕ → List ℕ → Result (Unit {0})
+compareBytes i [] [] = good tt
+compareBytes i [] (b ∷ bs) = refused OtherDrawing i
+compareBytes i (a ∷ l) [] = refused OtherDrawing i
+compareBytes i (a ∷ l) (b ∷ bs) = do
+  refuseIf (not (eqb a b)) OtherDrawing i
+  compareBytes (suc i) l bs
+
+-- the drawing of a drawing file: "1, 2, 3 on the header (s from 1 to 8), 1 and 2 on all other records, 10, then 4 to 9, then 11"
+unfoldable pub readDrawing : List ℕ → Result Drawing
+readDrawing bytes = do
+  f ← readRecord drawingHead (fromStart bytes)
+  let n = getD (f .words) 0 0
+  let s = getD (f .words) 1 0
+  refuseIf (not (between 3 1024 n && between 1 8 s)) OutOfRange 0
+  ps ← several n pointPlace (f .next)
+  ls ← several (3 * n - 6) lineShape (ps .next)
+  readEnd (ls .next)
+  d ← judgeLines n s (ls .next .offset) (ls .all)
+  compareBytes 0 bytes (drawingBytes d)
+  good d
+
+-- a drawing file into its order file: "then 22"
+abbrev pub orderBack : List ℕ → Result (List ℕ)
+orderBack bytes = do
+  d ← readDrawing bytes
+  refuseIf (ltb (d .k) (d .n)) Unfinished 0
+  good (writeOrder d)

@@ -1,0 +1,61 @@
+-- "Cutter moves", over whole numbers: eighths of a millimetre.
+use Prim.Native.Nat.{ℕ, _*_}
+use mathlib.Core.Bool.{Bool, not, _&&_}
+use mathlib.Core.List.{List, [], _∷_, _++_}
+use lib.ListN.{length, getD}
+use lib.Dec.{ltb}
+use Rattle.rules.specs.declared.Line.{Line}
+use Rattle.rules.specs.declared.Place.{Place}
+use Rattle.rules.specs.declared.Refusal.the-variants.{BadTool, Unfinished, NoSuch}
+use Rattle.rules.specs.Basics.{if_then_else_, between}
+use Rattle.rules.specs.Refusals.{Result, good, _>>_, refuseIf}
+use Rattle.rules.specs.Points.{Drawing, placeOf}
+use Rattle.rules.specs.Ports.{bendPlace}
+
+-- "a tool is three whole numbers of eighths of a millimetre"; 0 stands for any other f32
+pub record Tool : Type 0 where
+  pub pitch : ℕ
+  pub depth : ℕ
+  pub clearance : ℕ
+
+-- "pitch 1 to 80, depth 1 to 40, clearance 1 to 80"
+abbrev pub isTool : Tool → Bool
+isTool t = between 1 80 (t .pitch) && (between 1 40 (t .depth) && between 1 80 (t .clearance))
+
+-- a move, to a place or to a height; `plunge z` goes to minus z
+pub data Move : Type 0 where
+  travel cut : ℕ → ℕ → Move
+  plunge lift : ℕ → Move
+
+-- "written coordinate times pitch"
+abbrev pub eighths : ℕ → Tool → ℕ → ℕ
+eighths s t c = s * c * t .pitch
+
+-- "travel to its later point, plunge to minus depth, cut to the bend, cut to the earlier point, lift to clearance"
+abbrev pub fiveMoves : ℕ → Tool → Place → Place → Place → List Move
+fiveMoves s t later bend earlier =
+    travel (eighths s t (later .x)) (eighths s t (later .y)) ∷
+    plunge (t .depth) ∷
+    cut (eighths s t (bend .x)) (eighths s t (bend .y)) ∷
+    cut (eighths s t (earlier .x)) (eighths s t (earlier .y)) ∷
+    lift (t .clearance) ∷ []
+
+-- "Each cut line gives five moves."
+abbrev pub movesOf : Drawing → Tool → Line → List Move
+movesOf d t l = if l .cut then fiveMoves (d .s) t (placeOf d (l .later)) (bendPlace d l) (placeOf d (l .earlier)) else []
+
+-- "Moves are numbered from 0 through the cut lines in line order."
+abbrev pub movesOver : Drawing → Tool → List Line → List Move
+movesOver d t [] = []
+movesOver d t (l ∷ ls) = movesOf d t l ++ movesOver d t ls
+
+abbrev pub allMoves : Drawing → Tool → List Move
+allMoves d t = movesOver d t (d .lines)
+
+-- "given one at a time by number. Order of refusals: 12, 22, 23."
+abbrev pub moveAt : Drawing → Tool → ℕ → Result Move
+moveAt d t i = do
+  refuseIf (not (isTool t)) BadTool 0
+  refuseIf (ltb (d .k) (d .n)) Unfinished 0
+  refuseIf (not (ltb i (length (allMoves d t)))) NoSuch 0
+  good (getD (allMoves d t) i (lift 0))

@@ -1,0 +1,51 @@
+-- Outputs: "Output past the written bytes stays"; "24 always has place 0" and is tested last; "a refusal changes no output byte".
+use Prim.Native.Nat.{ℕ, zero, suc, _+_, _/_, _%_}
+use mathlib.Core.List.{List, [], _∷_, _++_}
+use lib.ListN.{length, take, drop}
+use lib.Dec.{ltb}
+use Rattle.rules.specs.declared.Refusal.the-variants.{OutputShort}
+use Rattle.rules.specs.Refusals.{Result, good, refused, number, _>>_, _>>=_, refuseIf}
+use Rattle.rules.specs.Points.{Drawing}
+use Rattle.rules.specs.DrawingFile.{writeDrawing, drawFile, orderBack}
+
+-- the bytes that a call writes into a buffer of this length, or its refusal
+abbrev pub fitted : List ℕ → Result (List ℕ) → Result (List ℕ)
+fitted buffer wanted = do
+  bytes ← wanted
+  refuseIf (ltb (length buffer) (length bytes)) OutputShort 0
+  good bytes
+
+-- what the buffer holds afterwards
+abbrev pub filled : List ℕ → Result (List ℕ) → List ℕ
+filled buffer (good bytes) = bytes ++ drop (length bytes) buffer
+filled buffer (refused r p) = buffer
+
+-- the calls that write: the drawing file of a drawing, of an order file; the order file of a drawing file
+abbrev pub drawingInto : Drawing → List ℕ → Result (List ℕ)
+drawingInto d buffer = fitted buffer (writeDrawing d)
+
+abbrev pub drawFileInto : List ℕ → List ℕ → Result (List ℕ)
+drawFileInto input buffer = fitted buffer (drawFile input)
+
+abbrev pub orderBackInto : List ℕ → List ℕ → Result (List ℕ)
+orderBackInto input buffer = fitted buffer (orderBack input)
+
+-- ---- "The drawing program reads an order file from standard input and writes the drawing, or the line `refused N at P`."
+
+-- the decimal digits of v, at most `most` of them
+abbrev pub digits : ℕ → ℕ → List ℕ
+digits zero v = []
+digits (suc most) v = elim (v / 10) [ zero ↦ (48 + v) ∷ [] | suc t ↦ digits most (suc t) ++ ((48 + v % 10) ∷ []) ]
+
+-- "refused ", "at " and a line feed around two numbers of at most 5 digits
+abbrev pub refusalLine : ℕ → ℕ → List ℕ
+refusalLine n place =
+    (114 ∷ 101 ∷ 102 ∷ 117 ∷ 115 ∷ 101 ∷ 100 ∷ 32 ∷ []) ++ (digits 5 n ++ ((32 ∷ 97 ∷ 116 ∷ 32 ∷ []) ++ (digits 5 place ++ (10 ∷ []))))
+
+abbrev pub printed : Result (List ℕ) → List ℕ
+printed (good bytes) = bytes
+printed (refused r p) = refusalLine (number r) p
+
+-- "It judges the first 32,768 bytes of its input as the whole file."
+abbrev pub program : List ℕ → List ℕ
+program input = printed (drawFile (take 32768 input))
