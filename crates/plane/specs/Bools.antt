@@ -1,0 +1,28 @@
+-- What a compound test tells.
+use mathlib.Core.Path.{_≡_, refl, sym}
+use mathlib.Core.Logic.{_⊎_, inl, inr}
+use mathlib.Core.Bool.{Bool, true, false, not, _&&_, _||_, true≢false, false≢true}
+
+pub both : (a b : Bool) → (a && b) ≡ true → (a ≡ true) × (b ≡ true)
+both true b e = (refl, e)
+both false b e = absurd (false≢true e)
+
+pub neither : (a b : Bool) → (a || b) ≡ false → (a ≡ false) × (b ≡ false)
+neither true b e = absurd (true≢false e)
+neither false b e = (refl, e)
+
+pub notboth : (a b : Bool) → (a && b) ≡ false → (a ≡ false) ⊎ (b ≡ false)
+notboth true b e = inr e
+notboth false b e = inl refl
+
+pub either : (a b : Bool) → (a || b) ≡ true → (a ≡ true) ⊎ (b ≡ true)
+either true b e = inl refl
+either false b e = inr e
+
+pub is-false : (a : Bool) → (a ≡ true → ⊥) → a ≡ false
+is-false true h = absurd (h refl)
+is-false false h = refl
+
+pub decide-bool : (a : Bool) → (a ≡ true) ⊎ (a ≡ false)
+decide-bool true = inl refl
+decide-bool false = inr refl

@@ -1,0 +1,10 @@
+pub mod Bools
+pub mod Aligned
+pub mod Ident
+pub mod Common
+pub mod Exact
+pub mod Apart
+pub mod Fan
+pub mod Only
+pub mod Rise
+pub mod Meaning

@@ -1,0 +1,122 @@
+-- What the arithmetic of the running calls needs: ranges of the counts, of places and of ports, and that no subtraction of the rules truncates.
+-- The laws of steps 3 and 4 (A + B is even, nothing truncates) are in Places; columns in Moved and Columns.
+use Prim.Native.Nat.{ℕ, suc, pred, _+_, _*_, _<_, _≤_}
+use mathlib.Core.Path.{_≡_, ap}
+use mathlib.Core.Bool.{Bool, true, false}
+use mathlib.Core.List.{List, [], _∷_}
+use native.Mathlib.Omega.{arith}
+use lib.ListN.{length}
+use Rattle.rules.specs.declared.Entry.{Entry}
+use Rattle.rules.specs.declared.Bend.the-variants.{Left, Middle}
+use Rattle.rules.specs.Basics.{if_then_else_, keep}
+use Rattle.rules.specs.Refusals.{good}
+use Rattle.rules.specs.Points.{Drawing, xOf, yOf, dlOf, drOf, hOf, placeOf, m, W, lineAt, start}
+use Rattle.rules.specs.Ports.{bendPlace}
+use Rattle.rules.specs.Adding.{addEntries}
+use Rattle.rules.specs.Calls.{drawn}
+use Rattle.rules.specs.Demand.{degree}
+use Rattle.net.specs.Side.{rt, lf}
+use Rattle.net.specs.Bend.{bend}
+use Rattle.net.specs.Frame.{Inside, point-in, spot-in}
+use Rattle.promise.specs.Promise.{IsLine}
+use Rattle.promise.specs.Nets.{kindOf}
+use Rattle.promise.specs.Sound.{Sound}
+use Rattle.promise.specs.Next.{next}
+use Rattle.promise.specs.Border.{m′}
+use Rattle.promise.specs.Opening.{sound-start}
+use Rattle.promise.specs.Accepted.{accepted, after-keeps}
+use Rattle.promise.specs.Degree.{degree-is}
+use Rattle.promise.specs.Spots.{spot-bend}
+use Rattle.promise.specs.Step.{sound-added}
+
+-- the counts: n from 3 to 1,024, at most n points placed, no more of them on the boundary
+pub record Ranged (d : Drawing) : Type 0 where
+  pub low : 3 ≤ d .n
+  pub high : d .n ≤ 1024
+  pub room : d .k ≤ d .n
+  pub three : 3 ≤ d .k
+  pub border : m d ≤ d .k
+
+-- a drawing that came from opening and calls
+pub record Standing (d : Drawing) : Type 0 where
+  pub sound : Sound d
+  pub ranged : Ranged d
+
+ranged-start : (n s : ℕ) (c1 c2 c3 : Bool) → 3 ≤ n → n ≤ 1024 → Ranged (start n s c1 c2 c3)
+ranged-start n s c1 c2 c3 low high = record { low = low; high = high; room = low; three = omega arith; border = omega arith }
+
+pub standing-start : (n s : ℕ) (c1 c2 c3 : Bool) → 3 ≤ n → n ≤ 1024 → Standing (start n s c1 c2 c3)
+standing-start n s c1 c2 c3 low high = record { sound = sound-start n s c1 c2 c3; ranged = ranged-start n s c1 c2 c3 low high }
+
+n-next : (d : Drawing) (es : List Entry) (l r : ℕ) → (next d es l r .n ≡ d .n) × (next d es l r .k ≡ suc (d .k))
+unfolding next
+n-next d es l r = (omega arith, omega arith)
+
+-- a call that is accepted keeps all this
+pub standing-added : (d e : Drawing) (es : List Entry) → Standing d → addEntries d es ≡ good e → Standing e
+standing-added d e es t h =
+    let a = accepted d e es h in
+    let z = n-next d es (a .l) (a .r) in
+    let b = m′ d es (a .l) (a .r) (t .sound) (a .run) in
+    let g = t .ranged in
+    record {
+      sound = sound-added d e es (t .sound) h;
+      ranged =
+          rw (a .is)
+          (record {
+            low = omega (arith, z .0);
+            high = omega (arith, z .0);
+            room = omega (arith, z .0, z .1, a .room);
+            three = omega (arith, z .1);
+            border = omega (arith, z .1, b, a .run .lr);
+          });
+    }
+
+-- the drawing after any list of calls
+pub standing-drawn : (n : ℕ) → 3 ≤ n → n ≤ 1024 → (calls : List (List ℕ)) → Standing (drawn n calls)
+standing-drawn n low high calls = after-keeps Standing standing-added _ (standing-start n 1 true true true low high) calls
+
+length-keep : {A : Type 0} (t : A → Bool) (l : List A) → length (keep t l) ≤ length l
+length-keep t [] = omega arith
+length-keep t (a ∷ l) = go (t a) (length-keep t l)
+  where
+    go : (b : Bool) → length (keep t l) ≤ length l → length (if b then a ∷ keep t l else keep t l) ≤ suc (length l)
+    go true h = omega arith
+    go false h = omega arith
+
+module _ (d : Drawing) (t : Standing d) where
+  -- W is below 5,112, so that eight times any place is below 65,536
+  pub width-most : W d ≤ 5111
+  width-most = omega (arith, t .sound .border .width, t .ranged .room, t .ranged .high)
+
+  -- the lines fit 3,072
+  pub lines-most : length (d .lines) ≤ 3067
+  lines-most = omega (arith, t .sound .inv .core .corners .count, t .sound .inv .core .corners .size, t .ranged .room, t .ranged .high)
+
+  -- places and bends
+  pub place-most : (p : ℕ) → 0 < p → p ≤ d .k → (xOf d p ≤ W d) × (2 * yOf d p + 2 ≤ W d)
+  place-most p low high = let i = point-in (t .sound .inv) (t .sound .border) (pred p) (omega arith) in (omega (arith, i .b), i .y)
+
+  pub bend-most : (e : ℕ) → IsLine d e → (bendPlace d (lineAt d e) .x ≤ W d) × (2 * bendPlace d (lineAt d e) .y + 2 ≤ W d)
+  bend-most e el =
+      let i : Inside (W d) (bendPlace d (lineAt d e)) = rw (spot-bend (t .sound) e el) at (spot-in (t .sound .inv) (t .sound .border) e el bend) in
+      (omega (arith, i .b), i .y)
+
+  -- counts of ports, and the height of the middle row: at most the lines at the point
+  pub ports-most : (p : ℕ) → 0 < p → p ≤ d .k → (drOf d p < length (d .lines)) × (dlOf d p < length (d .lines)) × (2 * hOf d p ≤ length (d .lines))
+  ports-most p low high =
+      let q : pred p < d .k = omega arith in
+      let e = degree-is d (t .sound) p low in
+      let f = length-keep (Rattle.rules.specs.Demand.endsAt p) (d .lines) in
+      (omega (arith, t .sound .degs .sides rt (pred p) q), omega (arith, t .sound .degs .sides lf (pred p) q), omega (arith, t .sound .degs .depth (pred p) q))
+
+  -- no subtraction of a left or middle port truncates
+  pub left-exact : (e j : ℕ) → IsLine d e → lineAt d e .bend ≡ Left j → dlOf d (lineAt d e .earlier) + 1 ≤ xOf d (lineAt d e .earlier)
+  left-exact e j el q = let f = t .sound .inv .slopes .slope lf j e el (ap kindOf q) in omega (arith, f .rise, f .run)
+
+  pub middle-exact : (e i : ℕ) → IsLine d e → lineAt d e .bend ≡ Middle i → (hOf d (lineAt d e .later) ≤ yOf d (lineAt d e .later)) × (hOf d (lineAt d e .later) ≤ xOf d (lineAt d e .later))
+  middle-exact e i el q =
+      let f = t .sound .inv .slopes .reach i e el (ap kindOf q) in
+      let b = t .sound .inv .core .points .frame (pred (lineAt d e .later)) (t .sound .inv .core .lines .ends e el .1) in
+      let h : hOf d (lineAt d e .later) ≤ yOf d (lineAt d e .later) = omega (arith, f .to-a, f .to-b) in
+      (h, omega (arith, b))
