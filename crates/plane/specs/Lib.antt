@@ -8,3 +8,4 @@ pub mod Fan
 pub mod Only
 pub mod Rise
 pub mod Meaning
+pub mod Turning

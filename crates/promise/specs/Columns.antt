@@ -21,10 +21,6 @@ use Rattle.promise.specs.Next.{IsRun, next}
 use Rattle.promise.specs.Climb.{Took, climb-root, climb-took}
 use Rattle.promise.specs.Index.{index-at, index-le, index-joined, index-new, Outside, before, behind, Within, within, without, within-of}
 
--- Spreading moves points and grows ports, so every point keeps its column.
-pub column-spread : (d : Drawing) (l r p : ℕ) → column (spread l r d) p ≡ column d p
-column-spread d l r p = refl
-
 -- the owners and the boundary once the new point stands over the run l .. r
 abbrev pub newOwners : Drawing → ℕ → ℕ → List ℕ
 newOwners d l r = snoc (owned (inside l r (d .boundary)) (suc (d .k)) 1 (d .owners)) 0

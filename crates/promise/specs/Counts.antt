@@ -40,11 +40,11 @@ grow-other (x ∷ a) (suc p) zero n = refl
 grow-other (x ∷ a) (suc p) (suc i) n = grow-other a p i (λ e. n (ap suc e))
 
 -- One more element at the end leaves the others.
-getD-snoc : (a : List ℕ) (x p n : ℕ) → length a ≡ n → p < n → getD (snoc a x) p 0 ≡ getD a p 0
+pub getD-snoc : (a : List ℕ) (x p n : ℕ) → length a ≡ n → p < n → getD (snoc a x) p 0 ≡ getD a p 0
 getD-snoc a x p n e h = List·getD-append a (x ∷ []) 0 p (omega arith)
 
 -- It stands behind them.
-snoc-new : (a : List ℕ) (x n : ℕ) → length a ≡ n → getD (snoc a x) n 0 ≡ x
+pub snoc-new : (a : List ℕ) (x n : ℕ) → length a ≡ n → getD (snoc a x) n 0 ≡ x
 snoc-new a x n e = getD-at a x [] 0 n e
 
 -- The list has one element more.
@@ -87,12 +87,6 @@ ys-next d es l r = (_, refl)
 -- ---- the fields of `Adds` and `Bends`
 
 module _ (d : Drawing) (es : List Entry) (l r : ℕ) (s : Sound d) (q : IsRun d es l r) where
-  -- Heights never change.
-  pub y′ : (p : ℕ) → p < netOf d .k → netOf (next d es l r) .y p ≡ netOf d .y p
-  y′ p h =
-      let t = ys-next d es l r in
-      ap (λ (a : List ℕ). getD a p 0) (t .1) ∙ getD-snoc (d .ys) (t .0) p (d .k) (s .sized .ys) h
-
   -- The depth of a middle row never changes.
   pub h′ : (p : ℕ) → p < netOf d .k → netOf (next d es l r) .h p ≡ netOf d .h p
   h′ p h = ap (λ (a : List ℕ). getD a p 0) (hs-next d es l r) ∙ getD-snoc (d .hs) (rowHeight (pointsOf es)) p (d .k) (s .sized .hs) h

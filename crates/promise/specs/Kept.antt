@@ -21,18 +21,10 @@ use Rattle.promise.specs.Climb.{Took}
 use Rattle.promise.specs.Index.{index-at}
 use Rattle.promise.specs.Columns.{newOwners, k-next, owners-next, length-owned, column-on, w-suc, index-w, inside-true, true-inside, false-inside, took, climb-next, climb-new}
 use Rattle.promise.specs.Border.{Stands, old, put, stands-next}
+use Rattle.promise.specs.Moved.{length-spread}
 use Rattle.promise.specs.Counts.{length-grow, length-snoc, ports-next, hs-next, ys-next}
 
 -- ---- sizes
-
--- A move leaves the number of points.
-pub length-movedXs : (f : ℕ → ℕ) (p : ℕ) (xs : List ℕ) → length (movedXs f p xs) ≡ length xs
-length-movedXs f p [] = refl
-length-movedXs f p (x ∷ xs) = ap suc (length-movedXs f (suc p) xs)
-
--- So does a spread.
-pub length-spread : (d : Drawing) (l r : ℕ) → length (spread l r d .xs) ≡ length (d .xs)
-length-spread d l r = simp length-movedXs
 
 -- The x of the new drawing, with the new point's own behind them.
 pub xs-next : (d : Drawing) (es : List Entry) (l r : ℕ) → (x : ℕ) × (next d es l r .xs ≡ snoc (spread l r d .xs) x)

@@ -6,9 +6,9 @@ pub mod Climb
 pub mod Index
 pub mod Columns
 pub mod Border
+pub mod Moved
 pub mod Counts
 pub mod Kept
-pub mod Moved
 pub mod Halves
 pub mod Places
 pub mod Lined
@@ -16,6 +16,7 @@ pub mod Change
 pub mod Lines
 pub mod Opening
 pub mod Accepted
+pub mod Step
 pub mod Spots
 pub mod Edges
 pub mod Within
@@ -24,6 +25,5 @@ pub mod Sectors
 pub mod Degree
 pub mod Angled
 pub mod Planar
-pub mod Step
 pub mod Theorem
 pub mod Bounds

@@ -5,15 +5,13 @@ use mathlib.Core.Bool.{Bool, true, false}
 use mathlib.Core.List.{List, [], _∷_, _++_}
 use native.Mathlib.Omega.{arith}
 use native.Mathlib.Decide.{ℕ-discrete}
-use lib.ListN.{length, getD, List·getD-append}
-use lib.Seq.{getD-at}
+use lib.ListN.{length, getD}
 use Rattle.rules.specs.declared.Entry.{Entry}
 use Rattle.rules.specs.declared.Line.{Line as Drawn}
 use Rattle.rules.specs.declared.Bend.{Bend}
 use Rattle.rules.specs.declared.Bend.the-variants.{Left, Right, Middle, Straight}
 use Rattle.rules.specs.Basics.{nth, snoc, grow}
 use Rattle.rules.specs.Points.{Drawing, xOf, yOf, dlOf, drOf, w, lineAt}
-use Rattle.rules.specs.Moving.{movedXs}
 use Rattle.rules.specs.Adding.{pointsOf, spread, change, newX, newY, rowHeight, inner, newBend, newLines, middleOf, D}
 use Rattle.rules.specs.Adding.{reaches as test}
 use Rattle.net.specs.Side.{strict, rt, lf}
@@ -25,6 +23,8 @@ use Rattle.net.specs.Row as Row
 use Rattle.promise.specs.Nets.{netOf, kindOf}
 use Rattle.promise.specs.Sound.{Sound, Ended}
 use Rattle.promise.specs.Next.{IsRun, next}
+use Rattle.promise.specs.Moved.{length-spread}
+use Rattle.promise.specs.Counts.{getD-snoc, snoc-new}
 use Rattle.promise.specs.Lined.{OfEntry, Read, was, entry, read, length-lines, length-points, bend-last, bend-inner, grow-at}
 use Rattle.promise.specs.Change.{getD-inner, length-inner, reached, unreached, change-start, change-end, first-before, first-at, middle-rising}
 
@@ -57,21 +57,6 @@ noLine = record { later = 0; earlier = 0; bend = Straight; cut = false }
 new-lines : (d : Drawing) (es : List Entry) (l r : ℕ) → next d es l r .lines ≡ d .lines ++ newLines (suc (d .k)) (bendAt d es l r) 0 es
 unfolding next bendAt changeOf
 new-lines d es l r = refl
-
--- a list with one number more, at its end and before it
-snoc-new : (xs : List ℕ) (a k : ℕ) → length xs ≡ k → getD (snoc xs a) k 0 ≡ a
-snoc-new xs a k h = getD-at xs a [] 0 k h
-
-snoc-old : (xs : List ℕ) (a k p : ℕ) → length xs ≡ k → p < k → getD (snoc xs a) p 0 ≡ getD xs p 0
-snoc-old xs a k p h b = List·getD-append xs (a ∷ []) 0 p (omega arith)
-
--- a move keeps the number of points, and so do steps 1 to 3
-length-movedXs : (f : ℕ → ℕ) (i : ℕ) (xs : List ℕ) → length (movedXs f i xs) ≡ length xs
-length-movedXs f i [] = refl
-length-movedXs f i (x ∷ xs) = ap suc (length-movedXs f (suc i) xs)
-
-length-spread : (d : Drawing) (l r : ℕ) → length (spread l r d .xs) ≡ length (d .xs)
-length-spread d l r = simp length-movedXs
 
 module _ (d : Drawing) (es : List Entry) (l r : ℕ) (s : Sound d) (q : IsRun d es l r) where
   -- there are r - l + 1 entries
@@ -189,11 +174,11 @@ module _ (d : Drawing) (es : List Entry) (l r : ℕ) (s : Sound d) (q : IsRun d 
   -- an old point's place after steps 1 to 3
   old-x : (p : ℕ) → p < d .k → netOf (next d es l r) .x p ≡ xOf (spread l r d) (suc p)
   unfolding next
-  old-x p b = snoc-old (spread l r d .xs) (newX l r (spread l r d)) (d .k) p (length-spread d l r ∙ s .sized .xs) b
+  old-x p b = getD-snoc (spread l r d .xs) (newX l r (spread l r d)) p (d .k) (length-spread d l r ∙ s .sized .xs) b
 
   old-y : (p : ℕ) → p < d .k → netOf (next d es l r) .y p ≡ yOf (spread l r d) (suc p)
   unfolding next
-  old-y p b = snoc-old (d .ys) (newY l r (spread l r d)) (d .k) p (s .sized .ys) b
+  old-y p b = getD-snoc (d .ys) (newY l r (spread l r d)) p (d .k) (s .sized .ys) b
 
   -- the middle row's height is D/2 rounded up
   pub h-new′ : netOf (next d es l r) .h (netOf d .k) ≡ (r - l + 1) / 2

@@ -1,0 +1,13 @@
+pub mod Spotted
+pub mod Opened
+pub mod Reading
+pub mod Tests
+pub mod Spots
+pub mod Reach
+pub mod Puts
+pub mod Points
+pub mod Links
+pub mod Hanging
+pub mod LinesKept
+pub mod Step
+pub mod Adding
