@@ -1,0 +1,47 @@
+-- One turn of each loop, on lists: the tests of the entry at hand, then those of the entries behind it.
+use Prim.Native.Nat.{ℕ, _+_, _-_, _<_}
+use mathlib.Core.Path.{_≡_, refl, ap}
+use mathlib.Core.Bool.{not, _||_}
+use mathlib.Core.List.{List, [], _∷_}
+use native.Mathlib.Numerals.{add-one}
+use native.Mathlib.Omega.{arith}
+use lib.ListN.{length, getD, drop}
+use lib.Seq.{drop-cons}
+use lib.Dec.{ltb, eqb}
+use Rattle.rules.specs.declared.Refusal.the-variants.{NotPlaced, Covered, NoRun}
+use Rattle.rules.specs.Refusals.{Result, _>>_, refuseIf}
+use Rattle.links.specs.Arrays.{atPoint}
+use Rattle.links.specs.Judging.{entriesPass, linksPass, runPasses}
+use Rattle.links.specs.Placing.{entryPoint}
+
+-- a list read at point p, by the code's index
+at-point : (l : List ℕ) (p : ℕ) → atPoint l p ≡ getD l (p - 1) 0
+at-point l p = ap (λ (j : ℕ). getD l j 0) (omega arith)
+
+-- 6 and 7 of entry i with point p, then the rest
+abbrev pub entryFirst : List ℕ → ℕ → ℕ → ℕ → Result (Unit {0}) → Result (Unit {0})
+entryFirst owner k i p rest = do
+  refuseIf (eqb p 0 || ltb k p) NotPlaced i
+  refuseIf (not (eqb (getD owner (p - 1) 0) 0)) Covered i
+  rest
+
+pub entry-turn : (owner es : List ℕ) (k i p : ℕ) → i < length es → p ≡ entryPoint es i →
+    entriesPass owner k i (drop i es) ≡ entryFirst owner k i p (entriesPass owner k (i + 1) (drop (i + 1) es))
+entry-turn owner es k i p h hp = rw (drop-cons es i 0 h, ← hp, at-point owner p, add-one)
+
+-- 8 of entry i with point q behind the point p, then the rest
+abbrev pub linkFirst : List ℕ → ℕ → ℕ → ℕ → Result (Unit {0}) → Result (Unit {0})
+linkFirst next i p q rest = do
+  refuseIf (not (eqb q (getD next (p - 1) 0))) NoRun i
+  rest
+
+pub link-turn : (next es : List ℕ) (i p q : ℕ) → i < length es → p ≡ entryPoint es (i - 1) → q ≡ entryPoint es i →
+    linksPass next i (entryPoint es (i - 1)) (drop i es) ≡ linkFirst next i p q (linksPass next (i + 1) (entryPoint es (i + 1 - 1)) (drop (i + 1) es))
+link-turn next es i p q h hp hq =
+    let back : i + 1 - 1 ≡ i = omega arith in
+    rw (back, drop-cons es i 0 h, ← hp, ← hq, at-point next p, add-one)
+
+-- the loop over the links starts at entry 1
+pub link-start : (next es : List ℕ) → runPasses next es ≡ linksPass next 1 (entryPoint es 0) (drop 1 es)
+link-start next [] = refl
+link-start next (e ∷ es) = refl

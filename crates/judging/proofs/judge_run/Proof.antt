@@ -1,0 +1,115 @@
+-- `judging::judge_run` meets its contract. The loop's invariant: the answer is that of the links from entry i on.
+use Prim.Native.Nat.{_+_, _-_, _<_, _≤_}
+use mathlib.Core.Path.{_≡_, _∙_}
+use native.Mathlib.Omega.{arith}
+use lib.ListN.{length, drop, drop-of-length-le}
+use borrow.Author.Needs.{needs}
+use borrow.Author.Tests.{eq-eqb, ne-eqb}
+use Rattle.links.specs.Judging.{linksPass, runPasses}
+use Rattle.links.specs.Placing.{entryPoint}
+use Rattle.judging.proofs.Turns.{linkFirst, link-turn, link-start}
+use Rattle.judging.proofs.judge_run.Statement.{statement}
+use Rattle.judging.proofs.judge_run.Tie as tie
+
+abbrev Inv-loop : tie.InvT-loop
+Inv-loop e next i₀ i = (1 ≤ i) × (runPasses next e ≡ linksPass next i (entryPoint e (i - 1)) (drop i e))
+
+abbrev μ-loop : tie.MeasureT-loop
+μ-loop e next i₀ i = length e - i
+
+-- the point before is placed
+placed : (d : tie.After-broad Inv-loop μ-loop) → (0 < d .broad .result) × (d .broad .result ≤ 1024)
+placed d =
+    let b = d .before .before .before .before in
+    let w = b .before .before .pre .1 in
+    let h : b .loop .i - 1 < length (b .before .before .args .e .now) = search needs in
+    let same = d .broad .ensures ∙ d .before .point-of .ensures in
+    (omega (arith, same, w .low _ h), omega (arith, same, w .high _ h))
+
+-- the test of the entry that was read, then those behind it
+turn : (d : tie.After-point-of2 Inv-loop μ-loop) →
+    let p = d .before .before in
+    let b = p .before .before .before .before in
+    let a = b .before .before .args in
+    runPasses (a .next .now) (a .e .now) ≡
+    linkFirst (a .next .now) (b .loop .i) (p .broad .result) (d .point-of2 .result) (linksPass (a .next .now) (b .loop .i + 1) (entryPoint (a .e .now) (b .loop .i + 1 - 1)) (drop (b .loop .i + 1) (a .e .now)))
+turn d =
+    let p = d .before .before in
+    let b = p .before .before .before .before in
+    let a = b .before .before .args in
+    b .loop .inv .1 ∙ link-turn (a .next .now) (a .e .now) (b .loop .i) (p .broad .result) (d .point-of2 .result) (search needs) (p .broad .ensures ∙ p .before .point-of .ensures) (d .point-of2 .ensures)
+
+loop-holds : tie.Need-loop-holds Inv-loop μ-loop
+loop-holds c = (search needs, link-start (c .before .args .next .now) (c .before .args .e .now))
+
+sub-point-of : tie.Need-sub-point-of Inv-loop μ-loop
+sub-point-of c = search needs
+
+mul-point-of : tie.Need-mul-point-of Inv-loop μ-loop
+mul-point-of c = search needs
+
+shared-slice-read-point-of : tie.Need-shared-slice-read-point-of Inv-loop μ-loop
+shared-slice-read-point-of c = search needs
+
+point-of-requires : tie.Need-point-of-requires Inv-loop μ-loop
+point-of-requires c κs = search needs
+
+broad-requires : tie.Need-broad-requires Inv-loop μ-loop
+broad-requires c κs = search needs
+
+mul-point-of-2 : tie.Need-mul-point-of-2 Inv-loop μ-loop
+mul-point-of-2 c = search needs
+
+shared-slice-read-point-of-2 : tie.Need-shared-slice-read-point-of-2 Inv-loop μ-loop
+shared-slice-read-point-of-2 c = search needs
+
+point-of-requires-2 : tie.Need-point-of-requires-2 Inv-loop μ-loop
+point-of-requires-2 c κs = search needs
+
+sub-if1 : tie.Need-sub-if1 Inv-loop μ-loop
+sub-if1 c = omega (arith, placed (c .before .before) .0)
+
+mul-if1 : tie.Need-mul-if1 Inv-loop μ-loop
+mul-if1 c = omega (arith, placed (c .before .before) .1)
+
+element-copy-out-if1 : tie.Need-element-copy-out-if1 Inv-loop μ-loop
+element-copy-out-if1 c = omega (arith, placed (c .before .before) .0, placed (c .before .before) .1)
+
+returns : tie.Need-returns Inv-loop μ-loop
+returns c = rw (turn (c .before .before), ne-eqb _ _ (c .if1 .taken))
+
+add-i : tie.Need-add-i Inv-loop μ-loop
+add-i c = search needs
+
+loop-less : tie.Need-loop-less Inv-loop μ-loop
+loop-less c = search needs
+
+loop-again : tie.Need-loop-again Inv-loop μ-loop
+loop-again c = (search needs, turn (c .before .before) ∙ rw (eq-eqb _ _ (c .if1 .left)))
+
+returns-2 : tie.Need-returns-2 Inv-loop μ-loop
+returns-2 c = rw (c .before .loop .inv .1, drop-of-length-le _ (c .loop-test .left))
+
+pub judge-run-spec : {M : Type 1} → statement M
+judge-run-spec =
+    tie.close
+    (tie.spec
+    Inv-loop
+    μ-loop
+    loop-holds
+    sub-point-of
+    mul-point-of
+    shared-slice-read-point-of
+    point-of-requires
+    broad-requires
+    mul-point-of-2
+    shared-slice-read-point-of-2
+    point-of-requires-2
+    sub-if1
+    mul-if1
+    element-copy-out-if1
+    returns
+    add-i
+    loop-less
+    loop-again
+    returns-2)

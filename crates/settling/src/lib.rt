@@ -1,0 +1,145 @@
+// The x of every placed point, from links and gaps, and the place where a line bends.
+use rules::Bend;
+use rules::Place;
+ghost use mathlib.Core.Path.{_≡_};
+ghost use Prim.Native.Nat.{_+_, _-_, _<_, _≤_};
+ghost use lib.ListN.{length, getD};
+ghost use Rattle.rules.specs.Points.{at};
+ghost use Rattle.settling.specs.Walk.{firstPass, Walks};
+ghost use Rattle.settling.specs.Hang.{hangBy, HangsBy, hung, Hangs};
+ghost use Rattle.settling.specs.Placed.{Settleable, Settled};
+ghost use Rattle.settling.specs.Bends.{Bendable, bendIn};
+
+// A 16-bit number as a usize.
+fn broad(v: u16) -> usize
+    ensures { λ r. ⌜ r ≡ v ⌝ }
+{
+    v as usize
+}
+
+// A small usize as a 16-bit number.
+fn narrow(v: usize) -> u16
+    requires { ⌜ v < 65536 ⌝ }
+    ensures { λ r. ⌜ r ≡ v ⌝ }
+{
+    v as u16
+}
+
+// The first pass: boundary points along the links from point 1, which lies at 0.
+fn walk(x: &mut [u16; 1024], next: &[u16; 1024], gap: &[u16; 1024], k: usize)
+    requires { ⌜ (length (now x) ≡ 1024) × (length (now next) ≡ 1024) × (length (now gap) ≡ 1024) × Walks (now next) (now gap) k (getD (now next) 0 0) 0 ⌝ }
+    ensures { λ _. ⌜ now (x .exit) ≡ firstPass (now (next .entry)) (now (gap .entry)) k (now (x .entry)) ⌝ }
+{
+    x[0] = 0;
+    let mut from = 0;
+    let mut at = 0;
+    let mut left = k;
+    while 0 < left {
+        let p = broad(next[from]);
+        if p == 0 {
+            return;
+        }
+        let q = p - 1;
+        at += broad(gap[q]);
+        x[q] = narrow(at);
+        from = q;
+        left -= 1;
+    }
+}
+
+// One covered point, at index p: its x from its owner's. Of a boundary point nothing changes.
+fn hang_one(x: &mut [u16; 1024], gap: &[u16; 1024], owner: &[u16; 1024], p: usize)
+    requires { ⌜ (length (now x) ≡ 1024) × (length (now gap) ≡ 1024) × (length (now owner) ≡ 1024) × (p < 1024) × HangsBy (getD (now owner) p 0) (now gap) p (now x) ⌝ }
+    ensures { λ _. ⌜ now (x .exit) ≡ hangBy (getD (now (owner .entry)) p 0) (now (gap .entry)) p (now (x .entry)) ⌝ }
+{
+    let o = broad(owner[p]);
+    if o == 0 {
+        return;
+    }
+    let sum = broad(x[o - 1]) + broad(gap[p]);
+    x[p] = narrow(sum - 32768);
+}
+
+// The second pass: covered points from point k down to point 1, each after its owner.
+fn hang(x: &mut [u16; 1024], gap: &[u16; 1024], owner: &[u16; 1024], k: usize)
+    requires { ⌜ (length (now x) ≡ 1024) × (length (now gap) ≡ 1024) × (length (now owner) ≡ 1024) × (k ≤ 1024) × Hangs (now gap) (now owner) k (now x) ⌝ }
+    ensures { λ _. ⌜ now (x .exit) ≡ hung (now (gap .entry)) (now (owner .entry)) k (now (x .entry)) ⌝ }
+{
+    let mut p = k;
+    while 0 < p {
+        p -= 1;
+        hang_one(x, gap, owner, p);
+    }
+}
+
+// The x of every placed point.
+pub fn settle(
+    x: &mut [u16; 1024],
+    next: &[u16; 1024],
+    gap: &[u16; 1024],
+    owner: &[u16; 1024],
+    k: usize,
+)
+    requires { ⌜ Settleable (now x) (now next) (now gap) (now owner) k ⌝ }
+    ensures { λ _. ⌜ Settled (now (x .exit)) (now (next .entry)) (now (gap .entry)) (now (owner .entry)) k ⌝ }
+{
+    walk(x, next, gap, k);
+    hang(x, gap, owner, k);
+}
+
+// Left port j of a point at (x, y) with dl left ports.
+fn left_port(x: u16, y: u16, dl: u16, j: u16) -> Place
+    requires { ⌜ (dl + 1 ≤ x) × (y + j < 65536) ⌝ }
+    ensures { λ r. ⌜ r ≡ at (x - (dl + 1)) (y + j) ⌝ }
+{
+    Place {
+        x: x - (dl + 1),
+        y: y + j,
+    }
+}
+
+// Right port j of a point at (x, y) with dr right ports.
+fn right_port(x: u16, y: u16, dr: u16, j: u16) -> Place
+    requires { ⌜ (x + dr + 1 < 65536) × (y + j < 65536) ⌝ }
+    ensures { λ r. ⌜ r ≡ at (x + dr + 1) (y + j) ⌝ }
+{
+    Place {
+        x: x + dr + 1,
+        y: y + j,
+    }
+}
+
+// Middle port i of a point at (x, y) whose middle row lies h below it.
+fn middle_port(x: u16, y: u16, h: u16, i: u16) -> Place
+    requires { ⌜ (x + i < 65536) × (h ≤ x + i) × (h ≤ y) ⌝ }
+    ensures { λ r. ⌜ r ≡ at (x + i - h) (y - h) ⌝ }
+{
+    Place {
+        x: x + i - h,
+        y: y - h,
+    }
+}
+
+// Where a line bends, from the places of now.
+pub fn bend_of(
+    x: &[u16; 1024],
+    ys: &[u16; 1024],
+    dls: &[u16; 1024],
+    drs: &[u16; 1024],
+    hs: &[u16; 1024],
+    later: usize,
+    earlier: usize,
+    b: Bend,
+) -> Place
+    requires { ⌜ Bendable (now x) (now ys) (now dls) (now drs) (now hs) later earlier b ⌝ }
+    ensures { λ r. ⌜ r ≡ bendIn (now (x .entry)) (now (ys .entry)) (now (dls .entry)) (now (drs .entry)) (now (hs .entry)) later earlier b ⌝ }
+{
+    let p = later - 1;
+    let q = earlier - 1;
+    match b {
+        Bend::Left(j) => left_port(x[q], ys[q], dls[q], j),
+        Bend::Right(j) => right_port(x[q], ys[q], drs[q], j),
+        Bend::Middle(i) => middle_port(x[p], ys[p], hs[p], i),
+        Bend::Straight => Place { x: x[0], y: ys[0] },
+    }
+}

@@ -1,0 +1,68 @@
+-- One turn of covering, on lists.
+use Prim.Native.Nat.{ℕ, zero, suc, pred, _+_, _-_, _<_, _≤_}
+use mathlib.Core.Path.{_≡_, refl, _∙_}
+use mathlib.Core.List.{List}
+use native.Mathlib.Nat.{le-refl, add-zero, add-suc}
+use native.Mathlib.Numerals.{add-one, sub-one}
+use native.Mathlib.Omega.{arith}
+use lib.ListN.{length, getD, set}
+use lib.Seq.{getD-set-other}
+use Rattle.links.specs.declared.Spot.{Spot}
+use Rattle.links.specs.Arrays.{atPoint}
+use Rattle.links.specs.Placing.{entryPoint, way, innerCount}
+use Rattle.links.specs.Storing.{coveredGaps, coveredOwners}
+use Rattle.storing.specs.Storable.{Coverable}
+
+-- the points of the entries behind entry i keep their gaps while the entries up to i are covered
+still : (gap es : List ℕ) (p : Spot) (i j : ℕ) → Coverable es gap p → i < j → j < length es → atPoint (coveredGaps gap es p i) (entryPoint es j) ≡ atPoint gap (entryPoint es j)
+unfolding coveredGaps
+still gap es p zero j k h l = refl
+still gap es p (suc i) j k h l =
+    getD-set-other (coveredGaps gap es p i) (pred (entryPoint es (suc i))) (pred (entryPoint es j)) _ 0
+    (λ e. k .distinct .differ (suc i) j h l (omega (arith, k .within .low (suc i) (omega arith), k .within .low j l, e)))
+    ∙ still gap es p i j k (omega arith) l
+
+-- a later entry's point lies no nearer
+way-more : (gap es : List ℕ) (i d : ℕ) → way gap es i ≤ way gap es (i + d)
+way-more gap es i zero = rw add-zero (le-refl _)
+way-more gap es i (suc d) = rw add-suc (omega (arith, way-more gap es i d))
+
+way-most : (gap es : List ℕ) (i j : ℕ) → i ≤ j → way gap es i ≤ way gap es j
+way-most gap es i j h =
+    let e : i + (j - i) ≡ j = omega arith in
+    rw e at (way-more gap es i (j - i))
+
+-- the entries 1 to i are covered, `far` is the way to the last of them, and q is the point of entry i + 1, which is covered next
+pub record Turn (gap₀ owner₀ es : List ℕ) (p : Spot) (v i far : ℕ) (gap owner : List ℕ) (q : ℕ) : Type 0 where
+  pub call : Coverable es gap₀ p
+  pub inner : i < innerCount es
+  pub passed : far ≡ way gap₀ es i
+  pub gaps : gap ≡ coveredGaps gap₀ es p i
+  pub owners : owner ≡ coveredOwners owner₀ es v i
+  pub point : q ≡ entryPoint es (i + 1)
+
+module _ {gap₀ owner₀ es : List ℕ} {p : Spot} {v i far : ℕ} {gap owner : List ℕ} {q : ℕ} (t : Turn gap₀ owner₀ es p v i far gap owner q) where
+  entry : i + 1 < length es
+  entry = omega (arith, t .inner)
+
+  pub turn-low : 0 < q
+  turn-low = omega (arith, t .point, t .call .within .low (i + 1) entry)
+
+  pub turn-index : q - 1 < 1024
+  turn-index = omega (arith, turn-low, t .point, t .call .within .high (i + 1) entry)
+
+  pub turn-way : far + getD gap (q - 1) 0 ≡ way gap₀ es (i + 1)
+  turn-way =
+      let s : atPoint (coveredGaps gap₀ es p i) (entryPoint es (i + 1)) ≡ atPoint gap₀ (entryPoint es (i + 1)) = still gap₀ es p i (i + 1) (t .call) (omega arith) entry in
+      rw (t .passed, t .gaps, t .point, sub-one, s, add-one)
+
+  pub turn-near : way gap₀ es (i + 1) + p .s1 < 32768
+  turn-near = omega (arith, way-most gap₀ es (i + 1) (innerCount es) (omega (arith, t .inner)), t .call .near)
+
+  pub turn-gap : {x : ℕ} → x ≡ way gap₀ es (i + 1) + p .s1 + 32768 - p .dx → set gap (q - 1) x ≡ coveredGaps gap₀ es p (i + 1)
+  unfolding coveredGaps
+  turn-gap e = rw (e, t .gaps, t .point, sub-one, add-one)
+
+  pub turn-owner : set owner (q - 1) v ≡ coveredOwners owner₀ es v (i + 1)
+  unfolding coveredOwners
+  turn-owner = rw (t .owners, t .point, sub-one, add-one)
