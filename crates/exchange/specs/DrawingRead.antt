@@ -1,0 +1,340 @@
+-- DEMAND 2, drawing files: reading the drawing file of a finished drawing gives the drawing back, and what is read is such a file.
+use Prim.Native.Nat.{ℕ, zero, suc, pred, _+_, _-_, _*_, _<_, _≤_}
+use mathlib.Core.Path.{_≡_, refl, ap, ap₂, sym, _∙_, subst, subst₂}
+use mathlib.Core.Bool.{Bool, true, false, not, _&&_, false≢true}
+use mathlib.Core.List.{List, [], _∷_, _++_}
+use native.Mathlib.Nat.{mul-le-mul}
+use native.Mathlib.Omega.{arith}
+use lib.ListN.{length, getD, length-append}
+use lib.Dec.{eqb, leb}
+use borrow.Author.Tests.{eq-eqb, eqb-true, le-leb, leb-true, not-false}
+use Rattle.rules.specs.declared.Line.{Line}
+use Rattle.rules.specs.declared.Entry.{Entry}
+use Rattle.rules.specs.declared.Refusal.the-variants.{OutOfRange, OtherDrawing}
+use Rattle.rules.specs.Basics.{if_then_else_, between}
+use Rattle.rules.specs.Refusals.{good}
+use Rattle.rules.specs.Points.{Drawing, m, W, lineAt}
+use Rattle.rules.specs.Ports.{bendPlace}
+use Rattle.rules.specs.Records.{plain, bytesOf, written, readRecord, several, readEnd, fromStart, drawingHead, pointPlace, lineShape, endShape}
+use Rattle.rules.specs.RoundTrip.{length-bytes, record-back}
+use Rattle.rules.specs.DrawingFile.{highest, writePoints, lineWords, drawingBytes, judgeLines, compareBytes, readDrawing}
+use Rattle.promise.specs.Promise.{IsLine}
+use Rattle.promise.specs.Next.{next}
+use Rattle.promise.specs.Accepted.{accepted}
+use Rattle.promise.specs.Border.{m′}
+use Rattle.promise.specs.Bounds.{Standing, standing-start, standing-added, width-most, place-most, bend-most}
+use Rattle.promise.specs.Within.{counted}
+use Rattle.exchange.specs.Built.{Built, begun, added, Whole, Bytes}
+use Rattle.exchange.specs.Results.{never-good, bound, binds-to, tested, goes-to, followed, same-value}
+use Rattle.exchange.specs.Groups.{writtenAll, AllFit, foundAll, several-back, length-all, linesWords, lines-are, lines-fit, length-lines, lines-read, grown, counts, judge-built, BuiltSo, judged-built}
+
+-- ---- the point records of a drawing
+
+-- the numbers of each
+abbrev pub pointsWords : ℕ → List ℕ → List ℕ → List (List ℕ)
+pointsWords s [] ys = []
+pointsWords s (x ∷ xs) [] = []
+pointsWords s (x ∷ xs) (y ∷ ys) = (s * x ∷ s * y ∷ []) ∷ pointsWords s xs ys
+
+-- the points are written so
+points-are : (s : ℕ) (xs ys : List ℕ) → writePoints s xs ys ≡ writtenAll pointPlace (pointsWords s xs ys)
+points-are s [] ys = refl
+points-are s (x ∷ xs) [] = refl
+points-are s (x ∷ xs) (y ∷ ys) = ap (λ (t : List ℕ). written pointPlace (s * x ∷ s * y ∷ []) ++ t) (points-are s xs ys)
+
+-- each has its size
+points-fit : (s : ℕ) (xs ys : List ℕ) → AllFit (pointPlace .size) (pointsWords s xs ys)
+points-fit s [] ys = tt
+points-fit s (x ∷ xs) [] = tt
+points-fit s (x ∷ xs) (y ∷ ys) = (refl, points-fit s xs ys)
+
+-- there is one for each point
+length-points : (s : ℕ) (xs ys : List ℕ) → length xs ≡ length ys → length (pointsWords s xs ys) ≡ length xs
+length-points s [] ys h = refl
+length-points s (x ∷ xs) [] h = absurd (omega arith)
+length-points s (x ∷ xs) (y ∷ ys) h = ap suc (length-points s xs ys (omega arith))
+
+-- ---- the numbers of a finished drawing
+
+-- every built drawing stands
+pub standing : {n s : ℕ} {second third : List Entry} {ess : List (List Entry)} {d : Drawing} → Built n s second third ess d → 3 ≤ n → n ≤ 1024 → Standing d
+standing {n} {s} (begun p q) low high = standing-start n s _ _ _ low high
+standing (added {d = d} {e = e} es b h) low high = standing-added d e es (standing b low high) h
+
+-- a finished drawing has three boundary points
+pub three-left : {n s : ℕ} {second third : List Entry} {ess : List (List Entry)} {d : Drawing} → Built n s second third ess d → 3 ≤ n → n ≤ 1024 → d .k ≡ d .n → m d ≡ 3
+three-left (begun p q) low high full = refl
+three-left (added {d = d} {e = e} es b h) low high full =
+    let a = accepted d e es h in
+    let g = grown d e es h in
+    let t = standing b low high in
+    let c = m′ d es (a .l) (a .r) (t .sound) (a .run) in
+    let w = a .whole (omega (arith, g .same-n, g .more-k)) in
+    let q : m e ≡ m (next d es (a .l) (a .r)) = ap m (a .is) in
+    omega (arith, c, w, q, a .run .size, a .run .rm)
+
+-- how many points and lines there are
+pub record Sizes (d : Drawing) : Type 0 where
+  pub xs : length (d .xs) ≡ d .n
+  pub ys : length (d .ys) ≡ d .n
+  pub lines : length (d .lines) + 6 ≡ 3 * d .n
+
+-- a finished drawing has n points and 3 n - 6 lines
+pub sizes : (d : Drawing) → Whole d → Sizes d
+sizes d w =
+    let t = standing (w .built) (w .low) (w .high) in
+    let c = counted (t .sound) in
+    let b = three-left (w .built) (w .low) (w .high) (w .full) in
+    record { xs = t .sound .sized .xs ∙ w .full; ys = t .sound .sized .ys ∙ w .full; lines = omega (arith, c, b, w .full) }
+
+-- ---- the whole file
+
+-- the numbers of the header
+abbrev pub headWords : Drawing → List ℕ
+headWords d = d .n ∷ d .s ∷ d .s * W d ∷ d .s * highest (d .ys) ∷ []
+
+-- the file, record by record
+pub bytes-are : (d : Drawing) → drawingBytes d ≡
+    written drawingHead (headWords d) ++
+    (writtenAll pointPlace (pointsWords (d .s) (d .xs) (d .ys)) ++
+    (writtenAll lineShape (linesWords d (d .lines)) ++ written endShape []))
+unfolding drawingBytes
+bytes-are d = ap₂ (λ (v w : List ℕ). written drawingHead (headWords d) ++ (v ++ (w ++ written endShape []))) (points-are (d .s) (d .xs) (d .ys)) (lines-are d (d .lines))
+
+-- a file is the same as itself
+compare-same : (i : ℕ) (bs : List ℕ) → compareBytes i bs bs ≡ good tt
+compare-same i [] = refl
+compare-same i (b ∷ bs) = goes-to (not (eqb b b)) OtherDrawing i _ _ (ap not (eq-eqb b b refl)) (compare-same (suc i) bs)
+
+-- files without a first differing byte are the same
+compare-equal : (i : ℕ) (cs bs : List ℕ) (u : Unit {0}) → compareBytes i cs bs ≡ good u → cs ≡ bs
+compare-equal i [] [] u h = refl
+compare-equal i [] (b ∷ bs) u h = absurd (never-good OtherDrawing i u h)
+compare-equal i (a ∷ cs) [] u h = absurd (never-good OtherDrawing i u h)
+compare-equal i (a ∷ cs) (b ∷ bs) u h =
+    let t = tested (not (eqb a b)) OtherDrawing i (compareBytes (suc i) cs bs) u h in
+    ap₂ (λ (v : ℕ) (l : List ℕ). v ∷ l) (eqb-true a b (not-false (eqb a b) (t .passed))) (compare-equal (suc i) cs bs u (t .last))
+
+-- n and s pass the test of the header
+range-good : (n s : ℕ) → 3 ≤ n → n ≤ 1024 → 1 ≤ s → s ≤ 8 → not (between 3 1024 n && between 1 8 s) ≡ false
+range-good n s a b c e = rw (le-leb 3 n a, le-leb n 1024 b, le-leb 1 s c, le-leb s 8 e)
+
+-- what two tests together tell
+both : (a b : Bool) → (a && b) ≡ true → (a ≡ true) × (b ≡ true)
+both true b e = (refl, e)
+both false b e = absurd (false≢true e)
+
+-- and what passes it lies in range
+good-range : (n s : ℕ) → not (between 3 1024 n && between 1 8 s) ≡ false → (3 ≤ n) × (n ≤ 1024) × (1 ≤ s) × (s ≤ 8)
+good-range n s h =
+    let t = both (between 3 1024 n) (between 1 8 s) (not-false (between 3 1024 n && between 1 8 s) h) in
+    let u = both (leb 3 n) (leb n 1024) (t .0) in
+    let v = both (leb 1 s) (leb s 8) (t .1) in
+    (leb-true 3 n (u .0), leb-true n 1024 (u .1), leb-true 1 s (v .0), leb-true s 8 (v .1))
+
+-- READING A DRAWING FILE: the drawing file of a finished drawing is read as that drawing.
+pub drawing-written : (d : Drawing) → Whole d → readDrawing (drawingBytes d) ≡ good d
+unfolding readDrawing
+drawing-written d w =
+    let z = sizes d w in
+    let bs = drawingBytes d in
+    let pw = pointsWords (d .s) (d .xs) (d .ys) in
+    let lw = linesWords d (d .lines) in
+    let end = written endShape [] in
+    let o = 0 + length (written drawingHead (headWords d)) in
+    let o′ = o + length (writtenAll pointPlace pw) in
+    let o″ = o′ + length (writtenAll lineShape lw) in
+    let fs = foundAll lineShape o′ lw end in
+    let head = ap (λ (v : List ℕ). readRecord drawingHead (fromStart v)) (bytes-are d) ∙ record-back drawingHead 0 (headWords d) (writtenAll pointPlace pw ++ (writtenAll lineShape lw ++ end)) refl in
+    let np : d .n ≡ length pw = sym (length-points (d .s) (d .xs) (d .ys) (z .xs ∙ sym (z .ys)) ∙ z .xs) in
+    let points = ap (λ (c : ℕ). several c pointPlace (record { offset = o; bytes = writtenAll pointPlace pw ++ (writtenAll lineShape lw ++ end) })) np ∙
+    several-back pointPlace o pw (writtenAll lineShape lw ++ end) (points-fit (d .s) (d .xs) (d .ys)) in
+    let nl : 3 * d .n - 6 ≡ length lw = omega (arith, z .lines, length-lines d (d .lines)) in
+    let lines = ap (λ (c : ℕ). several c lineShape (record { offset = o′; bytes = writtenAll lineShape lw ++ end })) nl ∙
+    several-back lineShape o′ lw end (lines-fit d (d .lines)) in
+    let c = counts (d .n) (d .s) (w .second) (w .third) (w .built) in
+    let judged = judge-built (w .built) (omega (arith, c .points, w .full)) o″ fs (lines-read d o′ (d .lines) end) in
+    binds-to _ _ _ _ head
+    (goes-to _ _ _ _ _ (range-good (d .n) (d .s) (w .low) (w .high) (w .scale .0) (w .scale .1))
+    (binds-to _ _ _ _ points
+    (binds-to _ _ _ _ lines
+    (binds-to _ _ _ _ judged
+    (rw (compare-same 0 bs))))))
+
+-- a drawing built for n points from n - 3 lists of entries is finished
+whole-of : (n s : ℕ) (d : Drawing) → BuiltSo n s d → (3 ≤ n) × (n ≤ 1024) × (1 ≤ s) × (s ≤ 8) → Whole d
+whole-of n s d t h =
+    let c = counts n s (t .second) (t .third) (t .built) in
+    record {
+      second = t .second;
+      third = t .third;
+      rest = t .rest;
+      built = subst₂ (λ (a b : ℕ). Built a b (t .second) (t .third) (t .rest) d) (sym (c .same-n)) (sym (c .same-s)) (t .built);
+      low = omega (arith, c .same-n);
+      high = omega (arith, c .same-n);
+      scale = (omega (arith, c .same-s), omega (arith, c .same-s));
+      full = omega (arith, c .same-n, c .points, t .many);
+    }
+
+-- what is known of a drawing is known of an equal one
+taken : (b : List ℕ) (e d : Drawing) → Whole e → b ≡ drawingBytes e → e ≡ d → Whole d × (b ≡ drawingBytes d)
+taken b e d w p q = subst (λ (v : Drawing). Whole v × (b ≡ drawingBytes v)) q (w, p)
+
+-- WHAT IS READ: a file that is read as a drawing is the drawing file of that drawing, which is finished.
+pub drawing-read : (b : List ℕ) (d : Drawing) → readDrawing b ≡ good d → Whole d × (b ≡ drawingBytes d)
+unfolding readDrawing
+drawing-read b d h =
+    let head = bound (readRecord drawingHead (fromStart b)) _ d h in
+    let n = getD (head .value .words) 0 0 in
+    let s = getD (head .value .words) 1 0 in
+    let range = tested (not (between 3 1024 n && between 1 8 s)) OutOfRange 0 _ d (head .last) in
+    let points = bound (several n pointPlace (head .value .next)) _ d (range .last) in
+    let lines = bound (several (3 * n - 6) lineShape (points .value .next)) _ d (points .last) in
+    let end = followed (readEnd (lines .value .next)) _ d (lines .last) in
+    let judged = bound (judgeLines n s (lines .value .next .offset) (lines .value .all)) _ d (end .last) in
+    let e = judged .value in
+    let same = followed (compareBytes 0 b (drawingBytes e)) (good e) d (judged .last) in
+    taken b e d (whole-of n s e (judged-built n s (lines .value .next .offset) (lines .value .all) e (judged .first)) (good-range n s (range .passed)))
+    (compare-equal 0 b (drawingBytes e) (same .value) (same .first))
+    (same-value e d (same .last))
+
+-- ---- the size of the file
+
+-- the drawing file has 42 n - 60 bytes
+pub length-drawing : (d : Drawing) → Whole d → length (drawingBytes d) + 60 ≡ 42 * d .n
+length-drawing d w =
+    let z = sizes d w in
+    let pw = pointsWords (d .s) (d .xs) (d .ys) in
+    let lw = linesWords d (d .lines) in
+    let p = length-all pointPlace 6 pw (λ ws e. omega (arith, e, length-bytes ws)) (points-fit (d .s) (d .xs) (d .ys)) in
+    let l = length-all lineShape 12 lw (λ ws e. omega (arith, e, length-bytes ws)) (lines-fit d (d .lines)) in
+    let b = ap length (bytes-are d) in
+    let np = length-points (d .s) (d .xs) (d .ys) (z .xs ∙ sym (z .ys)) in
+    let nl = length-lines d (d .lines) in
+    let e1 = length-append (writtenAll pointPlace pw) (writtenAll lineShape lw ++ written endShape []) in
+    let e2 = length-append (writtenAll lineShape lw) (written endShape []) in
+    omega (arith, z .xs, z .lines)
+
+-- ---- every number written fits 16 bits
+
+-- places and lengths times s are at most 8 * 5,111, and the ends of lines are points
+pub record Small (d : Drawing) : Type 0 where
+  pub width : d .s * W d ≤ 40888
+  pub height : d .s * highest (d .ys) ≤ 40888
+  pub xs : (i : ℕ) → i < d .n → d .s * getD (d .xs) i 0 ≤ 40888
+  pub ys : (i : ℕ) → i < d .n → d .s * getD (d .ys) i 0 ≤ 40888
+  pub ends : (e : ℕ) → IsLine d e → (lineAt d e .later ≤ d .n) × (lineAt d e .earlier ≤ d .n)
+  pub bends : (e : ℕ) → IsLine d e → (d .s * bendPlace d (lineAt d e) .x ≤ 40888) × (d .s * bendPlace d (lineAt d e) .y ≤ 40888)
+
+-- the largest of numbers up to b
+highest-most : (ys : List ℕ) (b : ℕ) → ((i : ℕ) → i < length ys → getD ys i 0 ≤ b) → highest ys ≤ b
+highest-most [] b g = omega arith
+highest-most (y ∷ ys) b g = omega (arith, g 0 (omega arith), highest-most ys b (λ i k. g (suc i) (omega arith)))
+
+-- a finished drawing's numbers are so
+pub small : (d : Drawing) → Whole d → Small d
+small d w =
+    let t = standing (w .built) (w .low) (w .high) in
+    let z = sizes d w in
+    let wide = width-most d t in
+    let place : (i : ℕ) → i < d .n → (getD (d .xs) i 0 ≤ W d) × (2 * getD (d .ys) i 0 + 2 ≤ W d) = λ i k. place-most d t (suc i) (omega arith) (omega (arith, w .full)) in
+    let end = t .sound .inv .core .lines .ends in
+    record {
+      width = scaled wide;
+      height = scaled (highest-most (d .ys) 5111 (λ i k. omega (arith, place i (omega (arith, z .ys)))));
+      xs = λ i k. scaled (omega (arith, place i k));
+      ys = λ i k. scaled (omega (arith, place i k));
+      ends = λ e k. (up (end e k .1) (w .full), up (end e k .0) (w .full));
+      bends = λ e k. (scaled (omega (arith, bend-most d t e k)), scaled (omega (arith, bend-most d t e k)));
+    }
+  where
+    scaled : {a : ℕ} → a ≤ 5111 → d .s * a ≤ 40888
+    scaled h = mul-le-mul (w .scale .1) h
+
+    up : {a k n : ℕ} → pred a < k → k ≡ n → a ≤ n
+    up h e = omega arith
+
+-- every number of a list is below 65,536
+abbrev pub Words : List ℕ → Type 0
+Words [] = Unit {0}
+Words (a ∷ l) = (a < 65536) × Words l
+
+-- every number of several lists
+abbrev pub AllWords : List (List ℕ) → Type 0
+AllWords [] = Unit {0}
+AllWords (l ∷ ls) = Words l × AllWords ls
+
+-- the numbers of the header
+pub head-words : (d : Drawing) → Whole d → Words (headWords d)
+head-words d w = let t = small d w in (omega (arith, w .high), (omega (arith, w .scale), (omega (arith, t .width), (omega (arith, t .height), tt))))
+
+-- the numbers of point records, over plain lists
+points-words : (s : ℕ) (xs ys : List ℕ) → ((i : ℕ) → i < length xs → s * getD xs i 0 ≤ 40888) → ((i : ℕ) → i < length ys → s * getD ys i 0 ≤ 40888) → AllWords (pointsWords s xs ys)
+points-words s [] ys f g = tt
+points-words s (x ∷ xs) [] f g = tt
+points-words s (x ∷ xs) (y ∷ ys) f g =
+    ((omega (arith, f 0 (omega arith)), (omega (arith, g 0 (omega arith)), tt)), points-words s xs ys (λ i k. f (suc i) (omega arith)) (λ i k. g (suc i) (omega arith)))
+
+-- the numbers of the drawing's point records
+pub point-words : (d : Drawing) → Whole d → AllWords (pointsWords (d .s) (d .xs) (d .ys))
+point-words d w =
+    let z = sizes d w in
+    let t = small d w in
+    points-words (d .s) (d .xs) (d .ys) (λ i k. t .xs i (rw (z .xs) at k)) (λ i k. t .ys i (rw (z .ys) at k))
+
+-- the numbers of line records, where those of each line are known
+lines-words : (d : Drawing) (ls : List Line) (z : Line) → ((e : ℕ) → e < length ls → Words (lineWords (d .s) (getD ls e z) (bendPlace d (getD ls e z)))) → AllWords (linesWords d ls)
+lines-words d [] z f = tt
+lines-words d (l ∷ ls) z f = (f 0 (omega arith), lines-words d ls z (λ e k. f (suc e) (omega arith)))
+
+-- the flag of a line is small
+flag-word : (c : Bool) → (if c then 1 else 0) < 65536
+flag-word true = omega arith
+flag-word false = omega arith
+
+-- the numbers of the drawing's line records
+pub line-words : (d : Drawing) → Whole d → AllWords (linesWords d (d .lines))
+line-words d w =
+    let t = small d w in
+    lines-words d (d .lines) _ (one t)
+  where
+    word : {a n : ℕ} → a ≤ n → n ≤ 40888 → a < 65536
+    word h k = omega arith
+
+    one : Small d → (e : ℕ) → IsLine d e → Words (lineWords (d .s) (lineAt d e) (bendPlace d (lineAt d e)))
+    one t e k =
+        let n : d .n ≤ 40888 = omega (arith, w .high) in
+        (word (t .ends e k .0) n, (word (t .ends e k .1) n, (omega (arith, t .bends e k), (omega (arith, t .bends e k), (flag-word (lineAt d e .cut), tt)))))
+
+-- ---- so the file is a list of bytes
+
+-- one byte more, at the front
+bytes-cons : {b : ℕ} {bs : List ℕ} → b < 256 → Bytes bs → Bytes (b ∷ bs)
+bytes-cons {b} {bs} h t = record { byte = at }
+  where
+    at : (i : ℕ) → i < length (b ∷ bs) → getD (b ∷ bs) i 0 < 256
+    at zero k = h
+    at (suc i) k = t .byte i (omega arith)
+
+-- two lists of bytes, one behind the other
+bytes-append : (bs : List ℕ) {cs : List ℕ} → Bytes bs → Bytes cs → Bytes (bs ++ cs)
+bytes-append [] h g = g
+bytes-append (b ∷ bs) h g = bytes-cons (h .byte 0 (omega arith)) (bytes-append bs (record { byte = λ i k. h .byte (suc i) (omega arith) }) g)
+
+-- the bytes of numbers below 65,536 are bytes
+bytes-words : (ws : List ℕ) → Words ws → Bytes (bytesOf ws)
+bytes-words [] h = record { byte = λ i k. absurd (omega arith) }
+bytes-words (w ∷ ws) h = bytes-cons (omega (arith, h .0)) (bytes-cons (omega arith) (bytes-words ws (h .1)))
+
+-- so are those of several records
+bytes-all : (mark c : ℕ) (wss : List (List ℕ)) → mark < 65536 → AllWords wss → Bytes (writtenAll (record { mark = mark; size = plain c }) wss)
+bytes-all mark c [] a h = bytes-words [] tt
+bytes-all mark c (ws ∷ wss) a h = bytes-append (bytesOf (mark ∷ ws)) (bytes-words (mark ∷ ws) (a, h .0)) (bytes-all mark c wss a (h .1))
+
+-- the drawing file of a finished drawing is a list of bytes
+pub drawing-bytes : (d : Drawing) → Whole d → Bytes (drawingBytes d)
+drawing-bytes d w =
+    rw (bytes-are d)
+    (bytes-append (written drawingHead (headWords d)) (bytes-words (0x4448 ∷ headWords d) (omega arith, head-words d w))
+    (bytes-append (writtenAll pointPlace (pointsWords (d .s) (d .xs) (d .ys))) (bytes-all 0x504F 2 (pointsWords (d .s) (d .xs) (d .ys)) (omega arith) (point-words d w))
+    (bytes-append (writtenAll lineShape (linesWords d (d .lines))) (bytes-all 0x4C4E 5 (linesWords d (d .lines)) (omega arith) (line-words d w)) (bytes-words (0x454E ∷ []) (omega arith, tt)))))

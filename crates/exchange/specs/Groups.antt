@@ -1,0 +1,333 @@
+-- Several records written and read back; the groups of a built drawing's line records are its entries, so that judging them in turn builds the drawing again.
+use Prim.Native.Nat.{ℕ, zero, suc, _+_, _-_, _*_, _<_}
+use mathlib.Core.Path.{_≡_, refl, ap, ap₂, sym, _∙_, subst}
+use mathlib.Core.Bool.{Bool, true, false, not, _&&_, false≢true}
+use mathlib.Core.List.{List, [], _∷_, _++_, append-assoc, append-nil}
+use native.Mathlib.Nat.{zero-add, suc-mul}
+use native.Mathlib.Omega.{arith}
+use lib.ListN.{length, length-append}
+use lib.Dec.{eqb}
+use borrow.Author.Tests.{eq-eqb, ne-eqb, eqb-true, not-false}
+use Rattle.rules.specs.declared.Line.{Line}
+use Rattle.rules.specs.declared.Entry.{Entry}
+use Rattle.rules.specs.declared.Bend.{Bend}
+use Rattle.rules.specs.declared.Bend.the-variants.{Straight}
+use Rattle.rules.specs.declared.Refusal.the-variants.{OtherStart}
+use Rattle.rules.specs.Basics.{if_then_else_, snoc, same}
+use Rattle.rules.specs.Refusals.{Result, good, _>>_, placed}
+use Rattle.rules.specs.Points.{Drawing, start}
+use Rattle.rules.specs.Adding.{pointsOf, addEntries, newLines, newBend}
+use Rattle.rules.specs.Ports.{bendPlace}
+use Rattle.rules.specs.Records.{Size, Shape, Found, written, readRecord, several, lineShape}
+use Rattle.rules.specs.RoundTrip.{found, Fits, record-back}
+use Rattle.rules.specs.OrderFile.{startTest, cutAt, startWith}
+use Rattle.rules.specs.DrawingFile.{lineWords, writeLines, laterIn, entryIn, group, behind, groupPlace, judgeRest, judgeLines}
+use Rattle.promise.specs.Next.{next}
+use Rattle.promise.specs.Accepted.{accepted}
+use Rattle.exchange.specs.Built.{Built, begun, added}
+use Rattle.exchange.specs.Results.{same-value, bound, binds-to, tested, placed-good}
+
+-- ---- several records of one shape
+
+-- the bytes of records that hold these numbers
+abbrev pub writtenAll : Shape → List (List ℕ) → List ℕ
+writtenAll r [] = []
+writtenAll r (ws ∷ wss) = written r ws ++ writtenAll r wss
+
+-- each list of numbers has the shape's size
+abbrev pub AllFit : Size → List (List ℕ) → Type 0
+AllFit z [] = Unit {0}
+AllFit z (ws ∷ wss) = Fits z ws × AllFit z wss
+
+-- what is found where they were written, from the offset o on
+abbrev pub foundAll : Shape → ℕ → List (List ℕ) → List ℕ → List Found
+foundAll r o [] rest = []
+foundAll r o (ws ∷ wss) rest = found o ws (o + length (written r ws)) (writtenAll r wss ++ rest) ∷ foundAll r (o + length (written r ws)) wss rest
+
+-- the records, written and read
+pub several-back : (r : Shape) (o : ℕ) (wss : List (List ℕ)) (rest : List ℕ) → AllFit (r .size) wss →
+    several (length wss) r (record { offset = o; bytes = writtenAll r wss ++ rest }) ≡
+    good (record { all = foundAll r o wss rest; next = record { offset = o + length (writtenAll r wss); bytes = rest } })
+several-back r o [] rest h = let z : o ≡ o + 0 = omega arith in λ i. good (record { all = []; next = record { offset = z i; bytes = rest } })
+several-back r o (ws ∷ wss) rest h =
+    let t = writtenAll r wss in
+    let b = o + length (written r ws) in
+    let head : readRecord r (record { offset = o; bytes = (written r ws ++ t) ++ rest }) ≡ good (found o ws b (t ++ rest)) =
+    ap (λ (v : List ℕ). readRecord r (record { offset = o; bytes = v })) (append-assoc (written r ws) t rest) ∙ record-back r o ws (t ++ rest) (h .0) in
+    let end : b + length t ≡ o + length (written r ws ++ t) = omega (arith, length-append (written r ws) t) in
+    binds-to _ _ (found o ws b (t ++ rest)) _ head
+    (binds-to _ _ (record { all = foundAll r b wss rest; next = record { offset = b + length t; bytes = rest } }) _ (several-back r b wss rest (h .1))
+    (λ i. good (record { all = found o ws b (t ++ rest) ∷ foundAll r b wss rest; next = record { offset = end i; bytes = rest } })))
+
+-- records of c bytes each have c times as many bytes as there are records
+pub length-all : (r : Shape) (c : ℕ) (wss : List (List ℕ)) → ((ws : List ℕ) → Fits (r .size) ws → length (written r ws) ≡ c) → AllFit (r .size) wss → length (writtenAll r wss) ≡ length wss * c
+length-all r c [] each h = omega arith
+length-all r c (ws ∷ wss) each h = simp length-append (omega (arith, each ws (h .0), length-all r c wss each (h .1), suc-mul (length wss) c))
+
+-- ---- records that hold lines
+
+-- each record holds the later point and the entry of a line
+pub data Reads : List Found → List Line → Type 0 where
+  none : Reads [] []
+  some : {f : Found} {fs : List Found} {l : Line} {ls : List Line} → laterIn f ≡ l .later → entryIn f ≡ record { point = l .earlier; cut = l .cut } → Reads fs ls → Reads (f ∷ fs) (l ∷ ls)
+
+-- the numbers of each line's record
+abbrev pub linesWords : Drawing → List Line → List (List ℕ)
+linesWords d [] = []
+linesWords d (l ∷ ls) = lineWords (d .s) l (bendPlace d l) ∷ linesWords d ls
+
+-- the lines are written so
+pub lines-are : (d : Drawing) (ls : List Line) → writeLines d ls ≡ writtenAll lineShape (linesWords d ls)
+lines-are d [] = refl
+lines-are d (l ∷ ls) = ap (λ (t : List ℕ). written lineShape (lineWords (d .s) l (bendPlace d l)) ++ t) (lines-are d ls)
+
+-- each has its size
+pub lines-fit : (d : Drawing) (ls : List Line) → AllFit (lineShape .size) (linesWords d ls)
+lines-fit d [] = tt
+lines-fit d (l ∷ ls) = (refl, lines-fit d ls)
+
+-- there is one for each line
+pub length-lines : (d : Drawing) (ls : List Line) → length (linesWords d ls) ≡ length ls
+length-lines d [] = refl
+length-lines d (l ∷ ls) = ap suc (length-lines d ls)
+
+-- the flag of a line, written and read
+flag-back : (c : Bool) → not (eqb (if c then 1 else 0) 0) ≡ c
+flag-back true = refl
+flag-back false = refl
+
+-- the line records hold the lines
+pub lines-read : (d : Drawing) (o : ℕ) (ls : List Line) (rest : List ℕ) → Reads (foundAll lineShape o (linesWords d ls) rest) ls
+lines-read d o [] rest = none
+lines-read d o (l ∷ ls) rest = some refl (let f = flag-back (l .cut) in λ i. record { point = l .earlier; cut = f i }) (lines-read d (o + 12) ls rest)
+
+-- ---- groups
+
+-- the first line is no line of points up to p
+abbrev pub Beyond : ℕ → List Line → Type 0
+Beyond p [] = Unit {0}
+Beyond p (l ∷ ls) = p < l .later
+
+-- the lines of a point's entries lie beyond the points before it
+beyond-new : (p : ℕ) (bend : ℕ → Bend) (i : ℕ) (es : List Entry) (ls : List Line) → Beyond (suc p) ls → Beyond p (newLines (suc p) bend i es ++ ls)
+beyond-new p bend i [] [] h = tt
+beyond-new p bend i [] (l ∷ ls) h = omega arith
+beyond-new p bend i (e ∷ es) ls h = omega arith
+
+-- the group of point p is its entries, and behind it are the other lines
+pub record Grouped (p : ℕ) (es : List Entry) (fs : List Found) (ls : List Line) : Type 0 where
+  pub entries : group p fs ≡ es
+  pub others : Reads (behind p fs) ls
+
+-- no line of p is next: its group is empty
+pub no-group : {p : ℕ} {fs : List Found} {ls : List Line} → Reads fs ls → Beyond p ls → Grouped p [] fs ls
+no-group none h = record { entries = refl; others = none }
+no-group {p} (some {f} {fs} {l} {ls} a b r) h =
+    let t = ne-eqb (laterIn f) p (λ e. omega arith) in
+    record { entries = rw t; others = rw t (some a b r) }
+
+-- one more line of p, before its group
+more : {p : ℕ} {f : Found} {e : Entry} {es : List Entry} {fs : List Found} {ls : List Line} → laterIn f ≡ p → entryIn f ≡ e → Grouped p es fs ls → Grouped p (e ∷ es) (f ∷ fs) ls
+more {p} {f} a b g =
+    let t = eq-eqb (laterIn f) p a in
+    let c = g .entries in
+    record { entries = rw t (cc); others = rw t (g .others) }
+
+-- the lines of p's entries are its group
+pub new-group : (p : ℕ) (bend : ℕ → Bend) (i : ℕ) (es : List Entry) (fs : List Found) (ls : List Line) → Reads fs (newLines p bend i es ++ ls) → Beyond p ls → Grouped p es fs ls
+new-group p bend i [] fs ls r h = no-group r h
+new-group p bend i (e ∷ es) fs ls r h = go r (new-group p bend (suc i) es)
+  where
+    go : {fs : List Found} → Reads fs (newLines p bend i (e ∷ es) ++ ls) → ((gs : List Found) (ls : List Line) → Reads gs (newLines p bend (suc i) es ++ ls) → Beyond p ls → Grouped p es gs ls) → Grouped p (e ∷ es) fs ls
+    go (some {fs = gs} a b r) rec = more a b (rec gs ls r h)
+
+-- ---- one accepted call
+
+-- what the drawing e has after the entries es came to d
+pub record Grown (d : Drawing) (es : List Entry) (e : Drawing) : Type 0 where
+  pub same-n : e .n ≡ d .n
+  pub same-s : e .s ≡ d .s
+  pub more-k : e .k ≡ suc (d .k)
+  pub bend : ℕ → Bend
+  pub more-lines : e .lines ≡ d .lines ++ newLines (suc (d .k)) bend 0 es
+
+-- promise's next drawing has this
+grown-next : (d : Drawing) (es : List Entry) (l r : ℕ) → Grown d es (next d es l r)
+unfolding next
+grown-next d es l r = record { same-n = refl; same-s = refl; more-k = refl; bend = _; more-lines = refl }
+
+-- so has the drawing after an accepted call
+pub grown : (d e : Drawing) (es : List Entry) → addEntries d es ≡ good e → Grown d es e
+grown d e es h = let a = accepted d e es h in rw (a .is) (grown-next d es (a .l) (a .r))
+
+-- ---- the groups of a built drawing
+
+-- a list with one element more is one longer
+pub length-snoc : {A : Type 0} (l : List A) (a : A) → length (snoc l a) ≡ suc (length l)
+length-snoc l a = omega (arith, length-append l (a ∷ []))
+
+-- judging one point whose group is accepted
+judge-one : (c end : ℕ) (d e : Drawing) (es : List Entry) (fs : List Found) → group (suc (d .k)) fs ≡ es → addEntries d es ≡ good e →
+    judgeRest (suc c) end d fs ≡ judgeRest c end e (behind (suc (d .k)) fs)
+unfolding judgeRest
+judge-one c end d e es fs g h = rw (g, h)
+
+module _ (n s : ℕ) (second third : List Entry) where
+  -- n and s stay, and there is a point for each list of entries
+  pub record Counts (ess : List (List Entry)) (d : Drawing) : Type 0 where
+    pub same-n : d .n ≡ n
+    pub same-s : d .s ≡ s
+    pub points : d .k ≡ 3 + length ess
+
+  -- so it is with every built drawing
+  pub counts : {ess : List (List Entry)} {d : Drawing} → Built n s second third ess d → Counts ess d
+  counts (begun p q) = record { same-n = refl; same-s = refl; points = refl }
+  counts (added {ess} {d} {e} es b h) =
+      let c = counts b in
+      let g = grown d e es h in
+      record { same-n = g .same-n ∙ c .same-n; same-s = g .same-s ∙ c .same-s; points = omega (arith, g .more-k, c .points, length-snoc ess es) }
+
+  -- judging count + c points from the records fs on comes to judging c points from d on, with records that hold ls
+  record Judged (end count c : ℕ) (d : Drawing) (fs : List Found) (ls : List Line) : Type 0 where
+    left : List Found
+    holds : Reads left ls
+    comes : judgeRest (count + c) end (startWith n s second third) fs ≡ judgeRest c end d left
+
+  -- the lines behind the first three, and that records of them are judged so
+  record Replays (end : ℕ) (ess : List (List Entry)) (d : Drawing) : Type 0 where
+    later : List Line
+    all : d .lines ≡ startWith n s second third .lines ++ later
+    far : (ls : List Line) → Beyond (d .k) ls → Beyond 3 (later ++ ls)
+    judged : (c : ℕ) (fs : List Found) (ls : List Line) → Reads fs (later ++ ls) → Beyond (d .k) ls → Judged end (length ess) c d fs ls
+
+  -- an accepted call more keeps this
+  replays-added : (end : ℕ) {ess : List (List Entry)} {d e : Drawing} (es : List Entry) → Replays end ess d → addEntries d es ≡ good e → Replays end (snoc ess es) e
+  replays-added end {ess} {d} {e} es a h =
+      let g = grown d e es h in
+      record {
+        later = a .later ++ newLines (suc (d .k)) (g .bend) 0 es;
+        all = g .more-lines ∙ ap (λ (v : List Line). v ++ newLines (suc (d .k)) (g .bend) 0 es) (a .all) ∙ append-assoc (startWith n s second third .lines) (a .later) _;
+        far = λ ls b. rw append-assoc (a .far _ (beyond-new (d .k) (g .bend) 0 es ls (rw (g .more-k) at b)));
+        judged = λ c fs ls r b.
+            let b′ : Beyond (suc (d .k)) ls = rw (g .more-k) at b in
+            let t = newLines (suc (d .k)) (g .bend) 0 es ++ ls in
+            let j = a .judged (suc c) fs t (rw append-assoc at r) (beyond-new (d .k) (g .bend) 0 es ls b′) in
+            let u = new-group (suc (d .k)) (g .bend) 0 es (j .left) ls (j .holds) b′ in
+            let z : length (snoc ess es) + c ≡ length ess + suc c = omega (arith, length-snoc ess es) in
+            record { left = behind (suc (d .k)) (j .left); holds = u .others; comes = rw z (j .comes ∙ judge-one c end d e es (j .left) (u .entries) h) };
+      }
+
+  -- so it is with every built drawing
+  replays : (end : ℕ) {ess : List (List Entry)} {d : Drawing} → Built n s second third ess d → Replays end ess d
+  replays end (begun p q) = record { later = []; all = refl; far = λ ls b. b; judged = λ c fs ls r b. record { left = fs; holds = r; comes = rw (zero-add c) } }
+  replays end (added es b h) = replays-added end es (replays end b) h
+
+-- ---- the groups of points 1 to 3
+
+-- the same list passes the test
+pub same-is : (l k : List ℕ) → l ≡ k → same l k ≡ true
+same-is l k e = rw e (own k)
+  where
+    own : (k : List ℕ) → same k k ≡ true
+    own [] = refl
+    own (a ∷ k) = rw (eq-eqb a a refl) (own k)
+
+-- and one that passes it is the same
+pub is-same : (l k : List ℕ) → same l k ≡ true → l ≡ k
+is-same [] [] h = refl
+is-same [] (b ∷ k) h = absurd (false≢true h)
+is-same (a ∷ l) [] h = absurd (false≢true h)
+is-same (a ∷ l) (b ∷ k) h = go (eqb a b) refl h (is-same l k)
+  where
+    go : (c : Bool) → eqb a b ≡ c → (c && same l k) ≡ true → (same l k ≡ true → l ≡ k) → a ∷ l ≡ b ∷ k
+    go true e h rec = let p = eqb-true a b e in let q = rec h in cc
+    go false e h rec = absurd (false≢true h)
+
+-- entries that name one point
+one-entry : (p : ℕ) (es : List Entry) → pointsOf es ≡ p ∷ [] → es ≡ record { point = p; cut = cutAt 0 es } ∷ []
+one-entry p [] h = cc
+one-entry p (e ∷ []) h = let q : e .point ≡ p = cc in λ i. record { point = q i; cut = e .cut } ∷ []
+one-entry p (e ∷ f ∷ es) h = cc
+
+-- entries that name two points
+two-entries : (p q : ℕ) (es : List Entry) → pointsOf es ≡ p ∷ q ∷ [] → es ≡ record { point = p; cut = cutAt 0 es } ∷ record { point = q; cut = cutAt 1 es } ∷ []
+two-entries p q [] h = cc
+two-entries p q (e ∷ []) h = cc
+two-entries p q (e ∷ f ∷ []) h = let a : e .point ≡ p = cc in let b : f .point ≡ q = cc in λ i. record { point = a i; cut = e .cut } ∷ record { point = b i; cut = f .cut } ∷ []
+two-entries p q (e ∷ f ∷ g ∷ es) h = cc
+
+-- the first three lines are those of the entries of points 2 and 3
+start-lines : (n s : ℕ) (second third : List Entry) → pointsOf second ≡ 1 ∷ [] → pointsOf third ≡ 1 ∷ 2 ∷ [] →
+    startWith n s second third .lines ≡ newLines 2 (λ i. Straight) 0 second ++ newLines 3 (newBend 1 1 1 1) 0 third
+start-lines n s second third p q = sym (ap₂ (λ (a b : List Entry). newLines 2 (λ i. Straight) 0 a ++ newLines 3 (newBend 1 1 1 1) 0 b) (one-entry 1 second p) (two-entries 1 2 third q))
+
+-- the entries of points 2 and 3 of a built drawing name the points that they must
+begun-points : {n s : ℕ} {second third : List Entry} {ess : List (List Entry)} {d : Drawing} → Built n s second third ess d → (pointsOf second ≡ 1 ∷ []) × (pointsOf third ≡ 1 ∷ 2 ∷ [])
+begun-points (begun p q) = (p, q)
+begun-points (added es b h) = begun-points b
+
+-- the tests of points 1 to 3 pass where their groups are these
+judge-start : (n s end : ℕ) (second third : List Entry) (fs : List Found) → group 1 fs ≡ [] → group 2 (behind 1 fs) ≡ second → group 3 (behind 2 (behind 1 fs)) ≡ third →
+    pointsOf second ≡ 1 ∷ [] → pointsOf third ≡ 1 ∷ 2 ∷ [] → judgeLines n s end fs ≡ judgeRest (n - 3) end (startWith n s second third) (behind 3 (behind 2 (behind 1 fs)))
+unfolding judgeLines
+judge-start n s end second third fs e1 e2 e3 p q = rw (e1, e2, e3, p, q)
+
+-- the records of a built drawing's lines are judged to be that drawing
+pub judge-built : {n s : ℕ} {second third : List Entry} {ess : List (List Entry)} {d : Drawing} → Built n s second third ess d → n ≡ 3 + length ess →
+    (end : ℕ) (fs : List Found) → Reads fs (d .lines) → judgeLines n s end fs ≡ good d
+unfolding judgeRest
+judge-built {n} {s} {second} {third} {ess} {d} b full end fs r =
+    let p = begun-points b in
+    let a = replays n s second third end b in
+    let tail = a .later ++ [] in
+    let lines : d .lines ≡ newLines 2 (λ i. Straight) 0 second ++ (newLines 3 (newBend 1 1 1 1) 0 third ++ tail) =
+    a .all ∙ ap₂ (λ (v w : List Line). v ++ w) (start-lines n s second third (p .0) (p .1)) (sym (append-nil (a .later))) ∙ append-assoc (newLines 2 (λ i. Straight) 0 second) (newLines 3 (newBend 1 1 1 1) 0 third) tail in
+    let far = a .far [] tt in
+    let far3 = beyond-new 2 (newBend 1 1 1 1) 0 third tail far in
+    let far2 = beyond-new 1 (λ i. Straight) 0 second _ far3 in
+    let g1 = no-group (subst (λ (v : List Line). Reads fs v) lines r) far2 in
+    let g2 = new-group 2 (λ i. Straight) 0 second (behind 1 fs) _ (g1 .others) far3 in
+    let g3 = new-group 3 (newBend 1 1 1 1) 0 third (behind 2 (behind 1 fs)) tail (g2 .others) far in
+    let j = a .judged 0 (behind 3 (behind 2 (behind 1 fs))) [] (g3 .others) tt in
+    let z : n - 3 ≡ length ess + 0 = omega arith in
+    judge-start n s end second third fs (g1 .entries) (g2 .entries) (g3 .entries) (p .0) (p .1) ∙
+    ap (λ (c : ℕ). judgeRest c end (startWith n s second third) (behind 3 (behind 2 (behind 1 fs)))) z ∙ j .comes
+
+-- ---- and back: what is judged good was built
+
+-- judging c more points builds on
+judged-rest : {n s : ℕ} {second third : List Entry} {ess : List (List Entry)} {d : Drawing} → Built n s second third ess d → (c end : ℕ) (e : Drawing) (fs : List Found) →
+    judgeRest c end d fs ≡ good e → (all : List (List Entry)) × Built n s second third all e × (length all ≡ length ess + c)
+unfolding judgeRest
+judged-rest {n} {s} {second} {third} {ess} b zero end e fs h = (ess, subst (λ (v : Drawing). Built n s second third ess v) (same-value _ e h) b, omega arith)
+judged-rest {ess = ess} {d = d} b (suc c) end e fs h =
+    let es = group (suc (d .k)) fs in
+    let t = bound (placed (groupPlace end fs) (addEntries d es)) _ e h in
+    let r = judged-rest (added es b (placed-good (groupPlace end fs) (addEntries d es) (t .value) (t .first))) c end e (behind (suc (d .k)) fs) (t .last) in
+    (r .0, r .1, omega (arith, r .2, length-snoc ess es))
+
+-- the entries that a drawing was built from
+pub record BuiltSo (n s : ℕ) (d : Drawing) : Type 0 where
+  pub second : List Entry
+  pub third : List Entry
+  pub rest : List (List Entry)
+  pub built : Built n s second third rest d
+  pub many : length rest ≡ n - 3
+
+-- a start that passes its test has the wanted points
+start-passed : {B : Type 0} (wanted : List ℕ) (es : List Entry) (place : ℕ) (t : Result B) (e : B) → (startTest wanted es place >> t) ≡ good e → (pointsOf es ≡ wanted) × (t ≡ good e)
+start-passed wanted es place t e h =
+    let z = tested (not (same (pointsOf es) wanted)) OtherStart place t e h in
+    (is-same (pointsOf es) wanted (not-false (same (pointsOf es) wanted) (z .passed)), z .last)
+
+-- a drawing that judging gives was built from the groups
+pub judged-built : (n s end : ℕ) (fs : List Found) (d : Drawing) → judgeLines n s end fs ≡ good d → BuiltSo n s d
+unfolding judgeLines
+judged-built n s end fs d h =
+    let gs = behind 1 fs in
+    let hs = behind 2 gs in
+    let t1 = start-passed [] (group 1 fs) (groupPlace end fs) _ d h in
+    let t2 = start-passed (1 ∷ []) (group 2 gs) (groupPlace end gs) _ d (t1 .1) in
+    let t3 = start-passed (1 ∷ 2 ∷ []) (group 3 hs) (groupPlace end hs) _ d (t2 .1) in
+    let r = judged-rest (begun (t2 .0) (t3 .0)) (n - 3) end d (behind 3 hs) (t3 .1) in
+    record { second = group 2 gs; third = group 3 hs; rest = r .0; built = r .1; many = omega (arith, r .2) }

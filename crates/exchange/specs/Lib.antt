@@ -1,0 +1,10 @@
+pub mod Built
+pub mod Results
+pub mod Entries
+pub mod Replay
+pub mod RecordRead
+pub mod OrderWrite
+pub mod OrderRead
+pub mod Groups
+pub mod DrawingRead
+pub mod Demand2

@@ -1,0 +1,239 @@
+-- An accepted order file is the one that its drawing writes.
+use Prim.Native.Nat.{ℕ, zero, suc, _-_, _≤_}
+use mathlib.Core.Path.{_≡_, refl, ap, ap₂, sym, _∙_, subst, subst₂}
+use mathlib.Core.Bool.{Bool, true, false, not, _&&_, true≢false}
+use mathlib.Core.List.{List, [], _∷_, _++_, map, append-assoc, append-nil}
+use native.Mathlib.Omega.{arith}
+use lib.ListN.{length}
+use lib.Dec.{eqb, ltb, leb}
+use borrow.Author.Tests.{ltb-false, leb-true, eqb-true, ne-eqb, not-false}
+use Rattle.rules.specs.declared.Entry.{Entry}
+use Rattle.rules.specs.declared.Refusal.the-variants.{OutOfRange, OtherStart, ExtraBytes}
+use Rattle.rules.specs.Basics.{if_then_else_, between, same, snoc}
+use Rattle.rules.specs.Refusals.{Result, good, _>>=_, _>>_, refuseIf, placed}
+use Rattle.rules.specs.Entries.{entryOf, wordOf}
+use Rattle.rules.specs.Points.{Drawing}
+use Rattle.rules.specs.Adding.{addEntries, pointsOf}
+use Rattle.rules.specs.Records.{Cursor, Found, first, readRecord, readEnd, marked, fromStart, written, orderHead, scaleShape, pointEntries, endShape}
+use Rattle.rules.specs.OrderFile.{Scaled, givenScale, readScale, orderScale, startTest, startWith, entriesIn, readRest, readPoints, readOrder, writeOrder}
+use Rattle.rules.specs.RoundTrip.{word-back}
+use Rattle.exchange.specs.Built.{Built, begun, added, Whole, Bytes}
+use Rattle.exchange.specs.Results.{same-value, bound, followed, tested, passes, placed-good}
+use Rattle.exchange.specs.Entries.{every, listed}
+use Rattle.exchange.specs.RecordRead.{Words, single, reread}
+use Rattle.exchange.specs.OrderWrite.{pointRecord, pointRecords, write-built}
+
+-- both tests passed
+and-true : (a b : Bool) → (a && b) ≡ true → (a ≡ true) × (b ≡ true)
+and-true true b h = (refl, h)
+and-true false b h = absurd (true≢false (sym h))
+
+-- ---- one record
+
+-- 16-bit numbers, read as entries and written
+entries-again : (ws : List ℕ) → Words ws → map wordOf (map entryOf ws) ≡ ws
+entries-again [] h = refl
+entries-again (w ∷ ws) h =
+    let a = word-back w (h .low 0 (omega arith)) in
+    let b = entries-again ws (record { low = λ i b. h .low (suc i) (omega arith) }) in
+    cc
+
+-- a point's record at the cursor, written from its entries
+record PointRead (at : Cursor) (f : Found) : Type 0 where
+  bytes : at .bytes ≡ pointRecord (entriesIn f) ++ f .next .bytes
+  rest : Bytes (f .next .bytes)
+
+-- a point's record that was read
+point-read : (at : Cursor) (f : Found) → Bytes (at .bytes) → readRecord pointEntries at ≡ good f → PointRead at f
+point-read at f b h =
+    let t = reread pointEntries at f b h in
+    record { bytes = t .bytes ∙ ap (λ (ws : List ℕ). written pointEntries ws ++ f .next .bytes) (sym (entries-again (f .words) (t .words))); rest = t .rest }
+
+-- a list without an element
+empty : (l : List ℕ) → length l ≤ 0 → l ≡ []
+empty [] h = refl
+empty (a ∷ l) h = absurd (omega arith)
+
+-- the end, and nothing behind it
+end-read : (at : Cursor) (u : Unit {0}) → Bytes (at .bytes) → readEnd at ≡ good u → at .bytes ≡ written endShape []
+end-read at u b h =
+    let g = bound (readRecord endShape at) (λ f. refuseIf (ltb 0 (length (f .next .bytes))) ExtraBytes (f .next .offset)) u h in
+    let t = reread endShape at (g .value) b (g .first) in
+    let none = ltb-false 0 (length (g .value .next .bytes)) (passes _ ExtraBytes _ u (g .last)) in
+    t .bytes ∙ ap₂ (λ (ws l : List ℕ). written endShape ws ++ l) (empty (g .value .words) (omega (arith, t .fits))) (empty (g .value .next .bytes) none)
+
+-- ---- the points after point 3
+
+-- the records at the cursor are those of the entries that were added
+record RestRead (n s : ℕ) (second third : List Entry) (ess : List (List Entry)) (c : ℕ) (at : Cursor) (e : Drawing) : Type 0 where
+  more : List (List Entry)
+  count : length more ≡ c
+  built : Built n s second third (ess ++ more) e
+  bytes : at .bytes ≡ pointRecords more
+
+module _ (n s : ℕ) (second third : List Entry) where
+  -- one record before those
+  rest-more : (ess : List (List Entry)) (c : ℕ) (at : Cursor) (f : Found) (e : Drawing) → PointRead at f → RestRead n s second third (snoc ess (entriesIn f)) c (f .next) e →
+      RestRead n s second third ess (suc c) at e
+  rest-more ess c at f e p r =
+      record {
+        more = entriesIn f ∷ r .more;
+        count = ap suc (r .count);
+        built = subst (λ (l : List (List Entry)). Built n s second third l e) (append-assoc ess (entriesIn f ∷ []) (r .more)) (r .built);
+        bytes = p .bytes ∙ ap (λ (l : List ℕ). pointRecord (entriesIn f) ++ l) (r .bytes);
+      }
+
+  -- c records and the end, from a built drawing on
+  rest-read : (c : ℕ) (ess : List (List Entry)) (d e : Drawing) (at : Cursor) → Bytes (at .bytes) → Built n s second third ess d → readRest c d at ≡ good e →
+      RestRead n s second third ess c at e
+  unfolding readRest
+  rest-read zero ess d e at b t h =
+      let g = followed (readEnd at) (good d) e h in
+      let same : Built n s second third (ess ++ []) e = subst₂ (Built n s second third) (sym (append-nil ess)) (same-value d e (g .last)) t in
+      record { more = []; count = refl; built = same; bytes = end-read at (g .value) b (g .first) }
+  rest-read (suc c) ess d e at b t h =
+      let f = bound (readRecord pointEntries at) (λ f. placed (f .place) (addEntries d (entriesIn f)) >>= λ e. readRest c e (f .next)) e h in
+      let es = entriesIn (f .value) in
+      let p = point-read at (f .value) b (f .first) in
+      let g = bound (placed (f .value .place) (addEntries d es)) (λ e. readRest c e (f .value .next)) e (f .last) in
+      let new = added es t (placed-good (f .value .place) (addEntries d es) (g .value) (g .first)) in
+      rest-more ess c at (f .value) e p (rest-read c (snoc ess es) (g .value) e (f .value .next) (p .rest) new (g .last))
+
+-- ---- all points
+
+-- two lists that pass the test are the same
+same-is : (l m : List ℕ) → same l m ≡ true → l ≡ m
+same-is [] [] h = refl
+same-is [] (b ∷ m) h = absurd (true≢false (sym h))
+same-is (a ∷ l) [] h = absurd (true≢false (sym h))
+same-is (a ∷ l) (b ∷ m) h =
+    let t = and-true (eqb a b) (same l m) h in
+    ap₂ (λ (x : ℕ) (y : List ℕ). x ∷ y) (eqb-true a b (t .0)) (same-is l m (t .1))
+
+-- entries without a point
+no-points : (es : List Entry) → pointsOf es ≡ [] → es ≡ []
+no-points [] h = refl
+no-points (e ∷ es) h = absurd (let z : _≡_ {A = ℕ} 0 1 = cc in omega arith)
+
+-- a record of point 1, 2 or 3 has the points that it must have, and what follows its test gave e
+record StartRead (wanted : List ℕ) (f : Found) {B : Type 0} (after : Result B) (e : B) : Type 0 where
+  points : pointsOf (entriesIn f) ≡ wanted
+  last : after ≡ good e
+
+-- the test of the start passed
+start-read : {B : Type 0} (wanted : List ℕ) (f : Found) (after : Result B) (e : B) → (startTest wanted (entriesIn f) (f .place) >> after) ≡ good e → StartRead wanted f after e
+start-read wanted f after e h =
+    let t = tested (not (same (pointsOf (entriesIn f)) wanted)) OtherStart (f .place) after e h in
+    record { points = same-is (pointsOf (entriesIn f)) wanted (not-false _ (t .passed)); last = t .last }
+
+-- the records at the cursor are those of a built drawing
+record PointsRead (n s : ℕ) (at : Cursor) (e : Drawing) : Type 0 where
+  second : List Entry
+  third : List Entry
+  rest : List (List Entry)
+  count : length rest ≡ n - 3
+  built : Built n s second third rest e
+  bytes : at .bytes ≡ pointRecords (every second third rest)
+
+-- three records, the first without an entry, and those of the rest
+points-join : (n s : ℕ) (at : Cursor) (e : Drawing) (f g h : Found) → PointRead at f → PointRead (f .next) g → PointRead (g .next) h → pointsOf (entriesIn f) ≡ [] →
+    RestRead n s (entriesIn g) (entriesIn h) [] (n - 3) (h .next) e → PointsRead n s at e
+points-join n s at e f g h pf pg ph z r =
+    record {
+      second = entriesIn g;
+      third = entriesIn h;
+      rest = r .more;
+      count = r .count;
+      built = r .built;
+      bytes = pf .bytes ∙ ap₂ (λ (es : List Entry) (l : List ℕ). pointRecord es ++ l) (no-points (entriesIn f) z)
+          (pg .bytes ∙ ap (λ (l : List ℕ). pointRecord (entriesIn g) ++ l) (ph .bytes ∙ ap (λ (l : List ℕ). pointRecord (entriesIn h) ++ l) (r .bytes)));
+    }
+
+-- the records of all points
+points-read : (n s : ℕ) (at : Cursor) (e : Drawing) → Bytes (at .bytes) → readPoints n s at ≡ good e → PointsRead n s at e
+unfolding readPoints
+points-read n s at e b h1 =
+    let f = bound (readRecord pointEntries at) _ e h1 in
+    let tf = start-read [] (f .value) _ e (f .last) in
+    let pf = point-read at (f .value) b (f .first) in
+    let g = bound (readRecord pointEntries (f .value .next)) _ e (tf .last) in
+    let tg = start-read (1 ∷ []) (g .value) _ e (g .last) in
+    let pg = point-read (f .value .next) (g .value) (pf .rest) (g .first) in
+    let h = bound (readRecord pointEntries (g .value .next)) _ e (tg .last) in
+    let second = entriesIn (g .value) in
+    let third = entriesIn (h .value) in
+    let th = start-read (1 ∷ 2 ∷ []) (h .value) (readRest (n - 3) (startWith n s second third) (h .value .next)) e (h .last) in
+    let ph = point-read (g .value .next) (h .value) (pg .rest) (h .first) in
+    let r = rest-read n s second third (n - 3) [] (startWith n s second third) e (h .value .next) (ph .rest) (begun (tg .points) (th .points)) (th .last) in
+    points-join n s at e (f .value) (g .value) (h .value) pf pg ph (tf .points) r
+
+-- ---- the header and the scale
+
+-- a number within bounds
+between-is : (a b v : ℕ) → between a b v ≡ true → (a ≤ v) × (v ≤ b)
+between-is a b v h = let t = and-true (leb a v) (leb v b) h in (leb-true a v (t .0), leb-true v b (t .1))
+
+-- the scale at the cursor is written so
+record ScaleRead (at : Cursor) (c : Scaled) : Type 0 where
+  low : 1 ≤ c .s
+  high : c .s ≤ 8
+  bytes : at .bytes ≡ orderScale (c .s) ++ c .next .bytes
+  rest : Bytes (c .next .bytes)
+
+-- it is given, and then it isn't 1
+given-read : (at : Cursor) (c : Scaled) → Bytes (at .bytes) → givenScale at ≡ good c → ScaleRead at c
+given-read at c b h =
+    let f = bound (readRecord scaleShape at) _ c h in
+    let t = reread scaleShape at (f .value) b (f .first) in
+    let g = tested (not (between 2 8 (first (f .value)))) OutOfRange (f .value .place) (good (record { s = first (f .value); next = f .value .next })) c (f .last) in
+    let z = between-is 2 8 (first (f .value)) (not-false _ (g .passed)) in
+    subst (ScaleRead at) (same-value _ c (g .last))
+    (record {
+      low = omega (arith, z .0);
+      high = z .1;
+      bytes = t .bytes ∙ rw (ne-eqb (first (f .value)) 1 (omega (arith, z .0))) (ap (λ (ws : List ℕ). written scaleShape ws ++ f .value .next .bytes) (single (f .value .words) (t .fits)));
+      rest = t .rest;
+    })
+
+-- it is given or absent
+scale-read : (at : Cursor) (c : Scaled) → Bytes (at .bytes) → readScale at ≡ good c → ScaleRead at c
+scale-read at c b h = go (marked scaleShape at) h
+  where
+    go : (t : Bool) → (if t then givenScale at else good (record { s = 1; next = at })) ≡ good c → ScaleRead at c
+    go true q = given-read at c b q
+    go false q = subst (ScaleRead at) (same-value _ c q) (record { low = omega arith; high = omega arith; bytes = refl; rest = b })
+
+-- ---- the file
+
+-- the file of n, s and the points that were read is what the drawing writes
+file-read : (n s : ℕ) (at : Cursor) (o : List ℕ) (d : Drawing) → (3 ≤ n) × (n ≤ 1024) → (1 ≤ s) × (s ≤ 8) → PointsRead n s at d →
+    o ≡ written orderHead (n ∷ []) ++ (orderScale s ++ at .bytes) → Whole d × (writeOrder d ≡ o)
+file-read n s at o d bn bs p e =
+    let t = listed (p .built) in
+    let full : d .k ≡ d .n = omega (arith, t .is-k, t .is-n, p .count, bn .0) in (
+      record {
+        second = p .second;
+        third = p .third;
+        rest = p .rest;
+        built = subst₂ (λ (n s : ℕ). Built n s (p .second) (p .third) (p .rest) d) (sym (t .is-n)) (sym (t .is-s)) (p .built);
+        low = rw (t .is-n) (bn .0);
+        high = rw (t .is-n) (bn .1);
+        scale = rw (t .is-s) bs;
+        full = full;
+      },
+      write-built (p .built) full ∙ ap (λ (l : List ℕ). written orderHead (n ∷ []) ++ (orderScale s ++ l)) (sym (p .bytes)) ∙ sym e,
+    )
+
+-- an accepted order file is the one that its drawing writes
+pub order-read : (o : List ℕ) (d : Drawing) → Bytes o → readOrder o ≡ good d → Whole d × (writeOrder d ≡ o)
+unfolding readOrder
+order-read o d b h =
+    let f = bound (readRecord orderHead (fromStart o)) _ d h in
+    let n = first (f .value) in
+    let t = reread orderHead (fromStart o) (f .value) b (f .first) in
+    let g = tested (not (between 3 1024 n)) OutOfRange 0 _ d (f .last) in
+    let c = bound (readScale (f .value .next)) (λ c. readPoints n (c .s) (c .next)) d (g .last) in
+    let z = scale-read (f .value .next) (c .value) (t .rest) (c .first) in
+    let p = points-read n (c .value .s) (c .value .next) d (z .rest) (c .last) in
+    file-read n (c .value .s) (c .value .next) o d (between-is 3 1024 n (not-false _ (g .passed))) (z .low, z .high) p
+    (t .bytes ∙ ap₂ (λ (ws l : List ℕ). written orderHead ws ++ l) (single (f .value .words) (t .fits)) (z .bytes))
