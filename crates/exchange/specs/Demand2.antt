@@ -1,7 +1,8 @@
 -- DEMAND 2 over the definitions: a drawing file is read exactly when it is the drawing of some accepted order file, and that order file comes back.
 -- A file is a list of bytes (`Bytes`).
 use Prim.Native.Nat.{ℕ, _≤_}
-use mathlib.Core.Path.{_≡_, refl, ap, sym, _∙_}
+use mathlib.Core.Path.{_≡_, refl, ap, sym, _∙_, subst}
+use mathlib.Core.Logic.{_↔_}
 use mathlib.Core.Bool.{Bool, true, false}
 use mathlib.Core.List.{List}
 use native.Mathlib.Omega.{arith}
@@ -16,6 +17,7 @@ use Rattle.exchange.specs.Built.{Whole, Bytes}
 use Rattle.exchange.specs.Results.{bound, binds-to, tested, goes-to, same-value}
 use Rattle.exchange.specs.OrderWrite.{order-written}
 use Rattle.exchange.specs.OrderRead.{order-read}
+use Rattle.exchange.specs.OrderBytes.{order-bytes}
 use Rattle.exchange.specs.DrawingRead.{drawing-written, drawing-read}
 
 -- a whole drawing is finished
@@ -45,6 +47,26 @@ undraw-draw b o h =
     let t = drawing-read b (r .value) (r .first) in
     let same : writeOrder (r .value) ≡ o = same-value _ o (tested (ltb (r .value .k) (r .value .n)) Unfinished 0 (good (writeOrder (r .value))) o (r .last) .last) in
     ap drawFile (sym same) ∙ drawn-as (writeOrder (r .value)) (r .value) (t .0) (order-written (r .value) (t .0)) ∙ ap good (sym (t .1))
+
+-- What comes back is a list of bytes.
+pub undraw-bytes : (b o : List ℕ) → orderBack b ≡ good o → Bytes o
+undraw-bytes b o h =
+    let r = bound (readDrawing b) _ o h in
+    let t = drawing-read b (r .value) (r .first) in
+    let same : writeOrder (r .value) ≡ o = same-value _ o (tested (ltb (r .value .k) (r .value .n)) Unfinished 0 (good (writeOrder (r .value))) o (r .last) .last) in
+    subst Bytes same (order-bytes (r .value) (t .0))
+
+-- b is read, and gives o; b is the drawing of the accepted order file o
+abbrev pub ReadAs : List ℕ → List ℕ → Type 0
+ReadAs b o = orderBack b ≡ good o
+
+pub record DrawingOf (b o : List ℕ) : Type 0 where
+  pub file : Bytes o
+  pub drawn : drawFile o ≡ good b
+
+-- A drawing file is read exactly when it is the drawing of some accepted order file, and that order file comes back.
+pub demand-2 : (b o : List ℕ) → ReadAs b o ↔ DrawingOf b o
+demand-2 b o = (λ h. record { file = undraw-bytes b o h; drawn = undraw-draw b o h }, λ t. draw-undraw o b (t .file) (t .drawn))
 
 -- So two accepted order files with the same drawing are the same file.
 pub one-order : (o p b : List ℕ) → Bytes o → Bytes p → drawFile o ≡ good b → drawFile p ≡ good b → o ≡ p

@@ -26,6 +26,7 @@ use Rattle.promise.specs.Bounds.{Standing, standing-start, standing-added, widt
 use Rattle.promise.specs.Within.{counted}
 use Rattle.exchange.specs.Built.{Built, begun, added, Whole, Bytes}
 use Rattle.exchange.specs.Results.{never-good, bound, binds-to, tested, goes-to, followed, same-value}
+use Rattle.exchange.specs.Numbers.{Words, AllWords, words-nil, words-cons, bytes-append, bytes-words}
 use Rattle.exchange.specs.Groups.{writtenAll, AllFit, foundAll, several-back, length-all, linesWords, lines-are, lines-fit, length-lines, lines-read, grown, counts, judge-built, BuiltSo, judged-built}
 
 -- ---- the point records of a drawing
@@ -254,26 +255,16 @@ small d w =
     up : {a k n : ℕ} → pred a < k → k ≡ n → a ≤ n
     up h e = omega arith
 
--- every number of a list is below 65,536
-abbrev pub Words : List ℕ → Type 0
-Words [] = Unit {0}
-Words (a ∷ l) = (a < 65536) × Words l
-
--- every number of several lists
-abbrev pub AllWords : List (List ℕ) → Type 0
-AllWords [] = Unit {0}
-AllWords (l ∷ ls) = Words l × AllWords ls
-
 -- the numbers of the header
 pub head-words : (d : Drawing) → Whole d → Words (headWords d)
-head-words d w = let t = small d w in (omega (arith, w .high), (omega (arith, w .scale), (omega (arith, t .width), (omega (arith, t .height), tt))))
+head-words d w = let t = small d w in words-cons (omega (arith, w .high)) (words-cons (omega (arith, w .scale)) (words-cons (omega (arith, t .width)) (words-cons (omega (arith, t .height)) words-nil)))
 
 -- the numbers of point records, over plain lists
 points-words : (s : ℕ) (xs ys : List ℕ) → ((i : ℕ) → i < length xs → s * getD xs i 0 ≤ 40888) → ((i : ℕ) → i < length ys → s * getD ys i 0 ≤ 40888) → AllWords (pointsWords s xs ys)
 points-words s [] ys f g = tt
 points-words s (x ∷ xs) [] f g = tt
 points-words s (x ∷ xs) (y ∷ ys) f g =
-    ((omega (arith, f 0 (omega arith)), (omega (arith, g 0 (omega arith)), tt)), points-words s xs ys (λ i k. f (suc i) (omega arith)) (λ i k. g (suc i) (omega arith)))
+    (words-cons (omega (arith, f 0 (omega arith))) (words-cons (omega (arith, g 0 (omega arith))) words-nil), points-words s xs ys (λ i k. f (suc i) (omega arith)) (λ i k. g (suc i) (omega arith)))
 
 -- the numbers of the drawing's point records
 pub point-words : (d : Drawing) → Whole d → AllWords (pointsWords (d .s) (d .xs) (d .ys))
@@ -304,37 +295,19 @@ line-words d w =
     one : Small d → (e : ℕ) → IsLine d e → Words (lineWords (d .s) (lineAt d e) (bendPlace d (lineAt d e)))
     one t e k =
         let n : d .n ≤ 40888 = omega (arith, w .high) in
-        (word (t .ends e k .0) n, (word (t .ends e k .1) n, (omega (arith, t .bends e k), (omega (arith, t .bends e k), (flag-word (lineAt d e .cut), tt)))))
+        words-cons (word (t .ends e k .0) n) (words-cons (word (t .ends e k .1) n) (words-cons (omega (arith, t .bends e k)) (words-cons (omega (arith, t .bends e k)) (words-cons (flag-word (lineAt d e .cut)) words-nil))))
 
 -- ---- so the file is a list of bytes
 
--- one byte more, at the front
-bytes-cons : {b : ℕ} {bs : List ℕ} → b < 256 → Bytes bs → Bytes (b ∷ bs)
-bytes-cons {b} {bs} h t = record { byte = at }
-  where
-    at : (i : ℕ) → i < length (b ∷ bs) → getD (b ∷ bs) i 0 < 256
-    at zero k = h
-    at (suc i) k = t .byte i (omega arith)
-
--- two lists of bytes, one behind the other
-bytes-append : (bs : List ℕ) {cs : List ℕ} → Bytes bs → Bytes cs → Bytes (bs ++ cs)
-bytes-append [] h g = g
-bytes-append (b ∷ bs) h g = bytes-cons (h .byte 0 (omega arith)) (bytes-append bs (record { byte = λ i k. h .byte (suc i) (omega arith) }) g)
-
--- the bytes of numbers below 65,536 are bytes
-bytes-words : (ws : List ℕ) → Words ws → Bytes (bytesOf ws)
-bytes-words [] h = record { byte = λ i k. absurd (omega arith) }
-bytes-words (w ∷ ws) h = bytes-cons (omega (arith, h .0)) (bytes-cons (omega arith) (bytes-words ws (h .1)))
-
 -- so are those of several records
 bytes-all : (mark c : ℕ) (wss : List (List ℕ)) → mark < 65536 → AllWords wss → Bytes (writtenAll (record { mark = mark; size = plain c }) wss)
-bytes-all mark c [] a h = bytes-words [] tt
-bytes-all mark c (ws ∷ wss) a h = bytes-append (bytesOf (mark ∷ ws)) (bytes-words (mark ∷ ws) (a, h .0)) (bytes-all mark c wss a (h .1))
+bytes-all mark c [] a h = bytes-words [] words-nil
+bytes-all mark c (ws ∷ wss) a h = bytes-append (bytesOf (mark ∷ ws)) (bytes-words (mark ∷ ws) (words-cons a (h .0))) (bytes-all mark c wss a (h .1))
 
 -- the drawing file of a finished drawing is a list of bytes
 pub drawing-bytes : (d : Drawing) → Whole d → Bytes (drawingBytes d)
 drawing-bytes d w =
     rw (bytes-are d)
-    (bytes-append (written drawingHead (headWords d)) (bytes-words (0x4448 ∷ headWords d) (omega arith, head-words d w))
+    (bytes-append (written drawingHead (headWords d)) (bytes-words (0x4448 ∷ headWords d) (words-cons (omega arith) (head-words d w)))
     (bytes-append (writtenAll pointPlace (pointsWords (d .s) (d .xs) (d .ys))) (bytes-all 0x504F 2 (pointsWords (d .s) (d .xs) (d .ys)) (omega arith) (point-words d w))
-    (bytes-append (writtenAll lineShape (linesWords d (d .lines))) (bytes-all 0x4C4E 5 (linesWords d (d .lines)) (omega arith) (line-words d w)) (bytes-words (0x454E ∷ []) (omega arith, tt)))))
+    (bytes-append (writtenAll lineShape (linesWords d (d .lines))) (bytes-all 0x4C4E 5 (linesWords d (d .lines)) (omega arith) (line-words d w)) (bytes-words (0x454E ∷ []) (words-cons (omega arith) words-nil)))))

@@ -1,10 +1,12 @@
 pub mod Built
+pub mod Numbers
 pub mod Results
 pub mod Entries
 pub mod Replay
 pub mod RecordRead
 pub mod OrderWrite
 pub mod OrderRead
+pub mod OrderBytes
 pub mod Groups
 pub mod DrawingRead
 pub mod Demand2

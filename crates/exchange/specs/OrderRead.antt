@@ -20,7 +20,8 @@ use Rattle.rules.specs.RoundTrip.{word-back}
 use Rattle.exchange.specs.Built.{Built, begun, added, Whole, Bytes}
 use Rattle.exchange.specs.Results.{same-value, bound, followed, tested, passes, placed-good}
 use Rattle.exchange.specs.Entries.{every, listed}
-use Rattle.exchange.specs.RecordRead.{Words, single, reread}
+use Rattle.exchange.specs.Numbers.{Words}
+use Rattle.exchange.specs.RecordRead.{single, reread}
 use Rattle.exchange.specs.OrderWrite.{pointRecord, pointRecords, write-built}
 
 -- both tests passed

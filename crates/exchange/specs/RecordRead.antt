@@ -14,6 +14,7 @@ use Rattle.rules.specs.Refusals.{good}
 use Rattle.rules.specs.Records.{Size, plain, counted, Shape, Cursor, Found, bytesOf, sized, written, wordsIn, skip, wordsAt, first, restOf, readRecord}
 use Rattle.rules.specs.RoundTrip.{Fits}
 use Rattle.exchange.specs.Built.{Bytes}
+use Rattle.exchange.specs.Numbers.{Words}
 use Rattle.exchange.specs.Results.{same-value, bound, tested}
 
 -- ---- bytes and numbers
@@ -25,10 +26,6 @@ bytes-tail h = record { byte = λ i b. h .byte (suc i) (omega arith) }
 -- bytes without the first c
 bytes-drop : {l : List ℕ} (c : ℕ) → Bytes l → Bytes (drop c l)
 bytes-drop {l} c h = record { byte = λ i b. rw (getD-drop c l i 0) (h .byte (c + i) (omega (arith, length-drop c l))) }
-
--- numbers of 16 bits
-pub record Words (ws : List ℕ) : Type 0 where
-  pub low : (i : ℕ) → i < length ws → getD ws i 0 < 65536
 
 -- one number more in front
 words-more : (w : ℕ) (ws : List ℕ) → w < 65536 → Words ws → Words (w ∷ ws)

@@ -17,21 +17,22 @@ use Rattle.promise.specs.Accepted.{accepted}
 use Rattle.promise.specs.Bounds.{Standing, standing-start, standing-added}
 use Rattle.exchange.specs.Built.{Built, begun, added}
 
--- every entry names a point below 32,768
+-- every entry names a point below 32,768, and there are at most 1,024 of them
 pub record Fitting (es : List Entry) : Type 0 where
   pub fits : (i : ℕ) → i < length es → getD (pointsOf es) i 0 < 32768
+  pub few : length es ≤ 1024
 
 -- such entries, written and read
 pub entries-back : (es : List Entry) → Fitting es → map entryOf (map wordOf es) ≡ es
 entries-back [] h = refl
 entries-back (e ∷ es) h =
     let a = entry-back e (h .fits 0 (omega arith)) in
-    let b = entries-back es (record { fits = λ i b. h .fits (suc i) (omega arith) }) in
+    let b = entries-back es (record { fits = λ i b. h .fits (suc i) (omega arith); few = omega (arith, h .few) }) in
     cc
 
 -- the entries of point 2 are such
 pub fitting-second : (es : List Entry) → pointsOf es ≡ 1 ∷ [] → Fitting es
-fitting-second es h = record { fits = λ i b. rw h (go i (omega (arith, length-points es, ap length h))) }
+fitting-second es h = record { fits = λ i b. rw h (go i (omega (arith, length-points es, ap length h))); few = omega (arith, length-points es, ap length h) }
   where
     go : (i : ℕ) → i < 1 → getD (1 ∷ []) i 0 < 32768
     go zero b = omega arith
@@ -39,7 +40,7 @@ fitting-second es h = record { fits = λ i b. rw h (go i (omega (arith, length-p
 
 -- and those of point 3
 pub fitting-third : (es : List Entry) → pointsOf es ≡ 1 ∷ 2 ∷ [] → Fitting es
-fitting-third es h = record { fits = λ i b. rw h (go i (omega (arith, length-points es, ap length h))) }
+fitting-third es h = record { fits = λ i b. rw h (go i (omega (arith, length-points es, ap length h))); few = omega (arith, length-points es, ap length h) }
   where
     go : (i : ℕ) → i < 2 → getD (1 ∷ 2 ∷ []) i 0 < 32768
     go zero b = omega arith
@@ -50,7 +51,7 @@ fitting-third es h = record { fits = λ i b. rw h (go i (omega (arith, length-po
 fitting-added : (d e : Drawing) (es : List Entry) → Standing d → addEntries d es ≡ good e → Fitting es
 fitting-added d e es t h =
     let a = accepted d e es h in
-    record { fits = λ i b. let z = t .sound .rooted .low (a .l + i) (omega arith) in omega (arith, a .run .point i (omega arith), z .1, t .ranged .room, t .ranged .high) }
+    record { fits = λ i b. let z = t .sound .rooted .low (a .l + i) (omega arith) in omega (arith, a .run .point i (omega arith), z .1, t .ranged .room, t .ranged .high); few = omega (arith, a .run .size, a .run .rm, t .ranged .border, t .ranged .room, t .ranged .high) }
 
 -- the entries of some calls take d to e
 pub data Replays : Drawing → List (List Entry) → Drawing → Type 0 where

@@ -1,0 +1,60 @@
+-- The order file that a finished drawing writes is a list of bytes.
+use Prim.Native.Nat.{ℕ, suc, _+_, _<_, _≤_}
+use mathlib.Core.Path.{_≡_, refl}
+use mathlib.Core.Bool.{Bool, true, false}
+use mathlib.Core.List.{List, [], _∷_, _++_, map}
+use native.Mathlib.Omega.{arith}
+use lib.ListN.{length, length-map}
+use lib.Dec.{eqb}
+use Rattle.rules.specs.declared.Entry.{Entry}
+use Rattle.rules.specs.Basics.{if_then_else_}
+use Rattle.rules.specs.Entries.{wordOf}
+use Rattle.rules.specs.Points.{Drawing}
+use Rattle.rules.specs.Records.{written, scaleShape, orderHead, bytesOf}
+use Rattle.rules.specs.OrderFile.{orderScale, writeOrder}
+use Rattle.exchange.specs.Built.{Whole, Bytes}
+use Rattle.exchange.specs.Numbers.{Words, words-nil, words-cons, bytes-append, bytes-words}
+use Rattle.exchange.specs.Entries.{every}
+use Rattle.exchange.specs.Replay.{Fitting, Replays, none, more, fitting-second, fitting-third, replayed}
+use Rattle.exchange.specs.OrderWrite.{pointRecord, pointRecords, write-built}
+
+-- an entry is a number of 16 bits
+entry-word : (e : Entry) → e .point < 32768 → wordOf e < 65536
+entry-word e h = go (e .cut)
+  where
+    go : (c : Bool) → e .point + (if c then 0 else 32768) < 65536
+    go true = omega arith
+    go false = omega arith
+
+-- so are the entries of a point
+entry-words : (es : List Entry) → Fitting es → Words (map wordOf es)
+entry-words [] h = words-nil
+entry-words (e ∷ es) h = words-cons (entry-word e (h .fits 0 (omega arith))) (entry-words es (record { fits = λ i b. h .fits (suc i) (omega arith); few = omega (arith, h .few) }))
+
+-- a point's record
+record-bytes : (es : List Entry) → Fitting es → Bytes (pointRecord es)
+record-bytes es h =
+    bytes-words (0x5054 ∷ length (map wordOf es) ∷ map wordOf es) (words-cons (omega arith) (words-cons (omega (arith, length-map es wordOf, h .few)) (entry-words es h)))
+
+-- the records of the calls that lead to a drawing, and the end
+rest-bytes : {d e : Drawing} {ess : List (List Entry)} → Replays d ess e → Bytes (pointRecords ess)
+rest-bytes none = bytes-words (0x454E ∷ []) (words-cons (omega arith) words-nil)
+rest-bytes (more es h q r) = bytes-append (pointRecord es) (record-bytes es h) (rest-bytes r)
+
+-- the scale record, where there is one
+scale-bytes : (s : ℕ) → s ≤ 8 → Bytes (orderScale s)
+scale-bytes s h = go (eqb s 1)
+  where
+    go : (t : Bool) → Bytes (if t then [] else written scaleShape (s ∷ []))
+    go true = bytes-words [] words-nil
+    go false = bytes-words (0x5343 ∷ s ∷ []) (words-cons (omega arith) (words-cons (omega arith) words-nil))
+
+pub order-bytes : (d : Drawing) → Whole d → Bytes (writeOrder d)
+order-bytes d w =
+    let r = replayed (w .low) (w .high) (w .built) in
+    rw (write-built (w .built) (w .full))
+    (bytes-append (written orderHead (d .n ∷ [])) (bytes-words (0x4844 ∷ d .n ∷ []) (words-cons (omega arith) (words-cons (omega (arith, w .high)) words-nil)))
+    (bytes-append (orderScale (d .s)) (scale-bytes (d .s) (w .scale .1))
+    (bytes-append (pointRecord []) (record-bytes [] (record { fits = λ i b. absurd (omega arith); few = omega arith }))
+    (bytes-append (pointRecord (w .second)) (record-bytes (w .second) (fitting-second (w .second) (r .second-points)))
+    (bytes-append (pointRecord (w .third)) (record-bytes (w .third) (fitting-third (w .third) (r .third-points))) (rest-bytes (r .replays)))))))
