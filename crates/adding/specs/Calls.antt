@@ -1,0 +1,45 @@
+-- What a call on the arrays asks, and what it leaves.
+use Prim.Native.Nat.{ℕ, _-_, _+_, _<_, _≤_}
+use mathlib.Core.Path.{_≡_}
+use mathlib.Core.List.{List}
+use lib.ListN.{length}
+use Rattle.rules.specs.Refusals.{answer}
+use Rattle.rules.specs.Points.{Drawing}
+use Rattle.links.specs.declared.Added.{Added}
+use Rattle.links.specs.declared.Counts.{Counts}
+use Rattle.links.specs.declared.Spot.{Spot}
+use Rattle.links.specs.Arrays.{Arrays, atPoint}
+use Rattle.links.specs.Placing.{entryPoint, way, spotOf}
+use Rattle.links.specs.Runs.{Within}
+use Rattle.links.specs.Storing.{judged, arraysAfter, countsAfter}
+use Rattle.stored.specs.Adding.{Holds}
+
+-- the arrays and numbers hold a drawing that came from opening and calls
+pub record Ready (a : Arrays) (c : Counts) : Type 0 where
+  pub d : Drawing
+  pub holds : Holds d a c
+
+-- the call is judged, and the arrays and numbers are those after it
+pub record Answered (a : Arrays) (c : Counts) (es : List ℕ) (a′ : Arrays) (r : Added) : Type 0 where
+  pub answer : r .answer ≡ answer (judged a c es)
+  pub arrays : a′ ≡ arraysAfter (judged a c es) a c es
+  pub counts : r .counts ≡ countsAfter (judged a c es) c es
+
+-- the spot of the new point, from the arrays that it is read off
+unfoldable pub spotOver : List ℕ → List ℕ → List ℕ → List ℕ → List ℕ → Spot
+spotOver es gap ys dls drs =
+    spotOf (way gap es (length es - 1)) (atPoint ys (entryPoint es 0)) (atPoint ys (entryPoint es (length es - 1)))
+    (atPoint drs (entryPoint es 0)) (atPoint dls (entryPoint es (length es - 1))) (length es)
+
+-- the entries are a run, whose ends rise less than they lie apart
+pub record Runs (es gap ys dls drs : List ℕ) : Type 0 where
+  pub some : 1 < length es
+  pub most : length es ≤ 1024
+  pub within : Within 1024 es
+  pub gap-long : length gap ≡ 1024
+  pub ys-long : length ys ≡ 1024
+  pub dls-long : length dls ≡ 1024
+  pub drs-long : length drs ≡ 1024
+  pub far : way gap es (length es - 1) < 4294967296
+  pub rise-l : atPoint ys (entryPoint es 0) ≤ way gap es (length es - 1) + atPoint ys (entryPoint es (length es - 1))
+  pub rise-r : atPoint ys (entryPoint es (length es - 1)) ≤ way gap es (length es - 1) + atPoint ys (entryPoint es 0)

@@ -1,0 +1,72 @@
+-- The four outcomes of running a list of calls, and where it starts.
+use Prim.Native.Nat.{ℕ, _*_, _<_, _≤_}
+use mathlib.Core.Path.{_≡_, refl}
+use mathlib.Core.Bool.{true}
+use mathlib.Core.List.{List}
+use native.Mathlib.Omega.{arith}
+use lib.ListN.{length}
+use Rattle.rules.specs.declared.Answer.the-variants.{Accepted, Refused}
+use Rattle.rules.specs.declared.Refusal.the-variants.{OutOfRange, OutputShort}
+use Rattle.rules.specs.Points.{opening}
+use Rattle.links.specs.Arrays.{Arrays}
+use Rattle.links.specs.Opening.{openArrays, openCounts}
+use Rattle.promise.specs.Bounds.{standing-start}
+use Rattle.promise.specs.Theorem.{demand-3}
+use Rattle.stored.specs.Opened.{sized-open, stores-open}
+use Rattle.stored.specs.Adding.{Holds}
+use Rattle.drawing.specs.declared.Drawing.{Drawing}
+use Rattle.drawing.specs.declared.Done.{Done}
+use Rattle.drawing.specs.View.{arraysIn}
+use Rattle.calls.specs.Lists.{callsIn}
+use Rattle.calls.specs.Turns.{Begun, Ended, Runs}
+use Rattle.calls.specs.Ran.{blank, Refuses, Accepts, Ran}
+
+-- The arrays as opened hold the drawing as opened.
+pub begun : {n : ℕ} {ws out : List ℕ} (a : Arrays) → Runs n ws out → a ≡ openArrays 1 1 2 → Begun n ws out a (openCounts n 1)
+begun {n} a h is =
+    record {
+      holds =
+          rw is
+          (record {
+            standing = standing-start n 1 true true true (h .low) (h .high);
+            sized = sized-open n 1 true true true 1 1 2;
+            stores = stores-open n 1 true true true 1 1 2 refl refl refl;
+          });
+      room = h .room;
+    }
+
+module _ {n : ℕ} {ws before : List ℕ} {r : Done} where
+  -- n is out of range.
+  pub out-of-range : (3 ≤ n → n ≤ 1024 → ⊥) → (r .answer ≡ Refused OutOfRange 0) × (r .drawing ≡ blank) → Ran n ws before before r
+  out-of-range h e =
+      let no : Refuses OutOfRange before before r = record { answer = e .0; buffer = refl; drawing = e .1 } in
+      record { low = λ l. no; high = λ l. no; short = λ l u s. absurd (h l u); enough = λ l u s. absurd (h l u) }
+
+  -- The buffer is too short.
+  pub too-short : 3 ≤ n → n ≤ 1024 → length before < 2 * length (callsIn ws) → (r .answer ≡ Refused OutputShort 0) × (r .drawing ≡ blank) → Ran n ws before before r
+  too-short low high h e =
+      record {
+        low = λ l. absurd (omega arith);
+        high = λ l. absurd (omega arith);
+        short = λ l u s. record { answer = e .0; buffer = refl; drawing = e .1 };
+        enough = λ l u s. absurd (omega arith);
+      }
+
+-- Every call was made.
+pub accepted : {n : ℕ} {ws before after : List ℕ} {d : Drawing} → Runs n ws before → Ended n ws before (arraysIn d) (d .counts) after →
+    Ran n ws before after (record { answer = Accepted; drawing = d })
+accepted {n} {ws} h e =
+    record {
+      low = λ l. absurd (omega (arith, h .low));
+      high = λ l. absurd (omega (arith, h .high));
+      short = λ l u s. absurd (omega (arith, h .room));
+      enough =
+          λ l u s.
+          record {
+            answer = refl;
+            buffer = e .buffer;
+            drawing = e .holds;
+            came = record { n = n; calls = callsIn ws; low = l; high = u; is = e .holds };
+            promise = demand-3 n l u (callsIn ws);
+          };
+    }

@@ -1,0 +1,5 @@
+pub mod Lists
+pub mod Turns
+pub mod Rests
+pub mod Places
+pub mod Ran

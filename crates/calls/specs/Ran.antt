@@ -1,0 +1,53 @@
+-- DEMAND 3 AS ONE CLAIM ABOUT THE PROGRAM: what running a list of calls leaves, for every n, every list of words and every buffer.
+use Prim.Native.Nat.{ℕ, _*_, _<_, _≤_}
+use mathlib.Core.Path.{_≡_}
+use mathlib.Core.List.{List, _++_}
+use lib.ListN.{length, drop}
+use Rattle.rules.specs.declared.Answer.the-variants.{Accepted, Refused}
+use Rattle.rules.specs.declared.Refusal.{Refusal}
+use Rattle.rules.specs.declared.Refusal.the-variants.{OutOfRange, OutputShort}
+use Rattle.rules.specs.Calls.{drawn, said}
+use Rattle.links.specs.Opening.{noPoints, noLines}
+use Rattle.promise.specs.Promise.{Promise}
+use Rattle.drawing.specs.declared.Drawing.{Drawing}
+use Rattle.drawing.specs.declared.Done.{Done}
+use Rattle.drawing.specs.View.{Is, Came}
+use Rattle.calls.specs.Lists.{callsIn, wordsOf}
+
+-- no drawing: every number is 0
+abbrev pub blank : Drawing
+blank =
+    record {
+      counts = record { n = 0; s = 0; k = 0; m = 0; lines = 0 };
+      next = noPoints;
+      gap = noPoints;
+      owner = noPoints;
+      ys = noPoints;
+      dls = noPoints;
+      drs = noPoints;
+      hs = noPoints;
+      words = noLines;
+      later = noLines;
+      bends = noLines;
+    }
+
+-- refused: no word of the buffer changes
+pub record Refuses (why : Refusal) (before after : List ℕ) (r : Done) : Type 0 where
+  pub answer : r .answer ≡ Refused why 0
+  pub buffer : after ≡ before
+  pub drawing : r .drawing ≡ blank
+
+-- accepted: the answers and the drawing are those of the rules, and the drawing keeps the promise
+pub record Accepts (n : ℕ) (ws before after : List ℕ) (r : Done) : Type 0 where
+  pub answer : r .answer ≡ Accepted
+  pub buffer : after ≡ wordsOf (said n (callsIn ws)) ++ drop (2 * length (callsIn ws)) before
+  pub drawing : Is (drawn n (callsIn ws)) (r .drawing)
+  pub came : Came (r .drawing)
+  pub promise : Promise (drawn n (callsIn ws))
+
+-- n is tested first, then the buffer: two words a call
+pub record Ran (n : ℕ) (ws before after : List ℕ) (r : Done) : Type 0 where
+  pub low : n < 3 → Refuses OutOfRange before after r
+  pub high : 1024 < n → Refuses OutOfRange before after r
+  pub short : 3 ≤ n → n ≤ 1024 → length before < 2 * length (callsIn ws) → Refuses OutputShort before after r
+  pub enough : 3 ≤ n → n ≤ 1024 → 2 * length (callsIn ws) ≤ length before → Accepts n ws before after r

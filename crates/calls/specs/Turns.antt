@@ -1,0 +1,46 @@
+-- One turn of the running of a list of calls, and all of them.
+use Prim.Native.Nat.{ℕ, _+_, _*_, _<_, _≤_, min}
+use mathlib.Core.Path.{_≡_}
+use mathlib.Core.List.{List, _++_}
+use lib.ListN.{length, getD, drop}
+use Rattle.rules.specs.Refusals.{answer}
+use Rattle.rules.specs.Points.{Drawing as Plan, opening}
+use Rattle.rules.specs.Calls.{drawn, said}
+use Rattle.links.specs.declared.Counts.{Counts}
+use Rattle.links.specs.Arrays.{Arrays}
+use Rattle.links.specs.Storing.{judged, arraysAfter, countsAfter}
+use Rattle.stored.specs.Adding.{Holds}
+use Rattle.calls.specs.Lists.{callsIn, wordsOf, withAnswer}
+
+-- where the call whose count stands at index `at` ends
+abbrev pub endOf : List ℕ → ℕ → ℕ
+endOf ws at = min (at + 1 + getD ws at 0) (length ws)
+
+-- a call can be made: the arrays hold a drawing, the entries were counted by 16 bits, and there is room for the answer at index `at`
+pub record Callable (a : Arrays) (c : Counts) (es out : List ℕ) (at : ℕ) : Type 0 where
+  pub plan : Plan
+  pub holds : Holds plan a c
+  pub few : length es < 65536
+  pub room : at + 1 < length out
+
+-- it was made
+pub record Made (a : Arrays) (c : Counts) (es out : List ℕ) (at : ℕ) (a′ : Arrays) (c′ : Counts) (out′ : List ℕ) : Type 0 where
+  pub arrays : a′ ≡ arraysAfter (judged a c es) a c es
+  pub counts : c′ ≡ countsAfter (judged a c es) c es
+  pub buffer : out′ ≡ withAnswer out at (answer (judged a c es))
+
+-- a list of calls can be run: n is in range, and there is room for every answer
+pub record Runs (n : ℕ) (ws out : List ℕ) : Type 0 where
+  pub low : 3 ≤ n
+  pub high : n ≤ 1024
+  pub room : 2 * length (callsIn ws) ≤ length out
+
+-- the arrays hold the drawing as opened for n points, and there is room for every answer
+pub record Begun (n : ℕ) (ws out : List ℕ) (a : Arrays) (c : Counts) : Type 0 where
+  pub holds : Holds (opening n) a c
+  pub room : 2 * length (callsIn ws) ≤ length out
+
+-- every call was made
+pub record Ended (n : ℕ) (ws out : List ℕ) (a : Arrays) (c : Counts) (out′ : List ℕ) : Type 0 where
+  pub holds : Holds (drawn n (callsIn ws)) a c
+  pub buffer : out′ ≡ wordsOf (said n (callsIn ws)) ++ drop (2 * length (callsIn ws)) out

@@ -1,0 +1,97 @@
+-- What opening gives: the drawing as opened, or, refused, a drawing of zeros.
+use Prim.Native.Nat.{ℕ, _<_, _≤_}
+use mathlib.Core.Path.{_≡_, refl}
+use mathlib.Core.Bool.{true, false}
+use mathlib.Core.List.{[]}
+use borrow.Author.Tests.{le-leb, lt-leb}
+use Rattle.rules.specs.declared.Answer.the-variants.{Accepted, Refused}
+use Rattle.rules.specs.declared.Refusal.the-variants.{OutOfRange}
+use Rattle.rules.specs.Basics.{between}
+use Rattle.rules.specs.Refusals.{Result, good, refused, answer}
+use Rattle.rules.specs.Points.{Drawing as Plan, opening, opened}
+use Rattle.links.specs.declared.Counts.{Counts}
+use Rattle.links.specs.Arrays.{Arrays}
+use Rattle.links.specs.Opening.{noPoints, noLines, openArrays, openCounts}
+use Rattle.promise.specs.Bounds.{standing-start}
+use Rattle.stored.specs.Adding.{Holds}
+use Rattle.stored.specs.Opened.{sized-open, stores-open}
+use Rattle.drawing.specs.declared.Drawing.{Drawing}
+use Rattle.drawing.specs.declared.Done.{Done}
+use Rattle.drawing.specs.View.{Is, Came}
+
+-- a drawing whose numbers are all 0
+unfoldable pub blank : Drawing
+blank =
+    record {
+      counts = record { n = 0; s = 0; k = 0; m = 0; lines = 0 };
+      next = noPoints;
+      gap = noPoints;
+      owner = noPoints;
+      ys = noPoints;
+      dls = noPoints;
+      drs = noPoints;
+      hs = noPoints;
+      words = noLines;
+      later = noLines;
+      bends = noLines;
+    }
+
+-- the drawing that goes with what the rules give
+abbrev pub OpensAs : Result Plan → Drawing → Type 0
+OpensAs (good p) d = Is p d × Came d
+OpensAs (refused r p) d = d ≡ blank
+
+pub record Opens (n : ℕ) (r : Done) : Type 0 where
+  pub answer : r .answer ≡ answer (opened n)
+  pub drawing : OpensAs (opened n) (r .drawing)
+
+module _ (n : ℕ) {d : Drawing} (q : d ≡ blank) where
+  refuses : between 3 1024 n ≡ false → Opens n (record { answer = Refused OutOfRange 0; drawing = d })
+  refuses e = record { answer = rw e; drawing = rw e q }
+
+  -- Refused: too few points, and too many.
+  pub refuses-few : n < 3 → Opens n (record { answer = Refused OutOfRange 0; drawing = d })
+  refuses-few h = refuses (rw (lt-leb 3 n h))
+
+  pub refuses-many : 3 ≤ n → 1024 < n → Opens n (record { answer = Refused OutOfRange 0; drawing = d })
+  refuses-many l h = refuses (rw (le-leb 3 n l, lt-leb n 1024 h))
+
+-- the drawing of these arrays and numbers
+abbrev pub drawingOf : Arrays → Counts → Drawing
+drawingOf a c =
+    record {
+      counts = c;
+      next = a .next;
+      gap = a .gap;
+      owner = a .owner;
+      ys = a .ys;
+      dls = a .dls;
+      drs = a .drs;
+      hs = a .hs;
+      words = a .words;
+      later = a .later;
+      bends = a .bends;
+    }
+
+-- The drawing as the program opens it: all three lines are cut.
+unfoldable pub openDrawing : ℕ → Drawing
+openDrawing n = drawingOf (openArrays 1 1 2) (openCounts n 1)
+
+module _ (n : ℕ) (low : 3 ≤ n) (high : n ≤ 1024) where
+  pub open-is : Is (opening n) (openDrawing n)
+  unfolding openDrawing
+  open-is =
+      record {
+        standing = standing-start n 1 true true true low high;
+        sized = sized-open n 1 true true true 1 1 2;
+        stores = stores-open n 1 true true true 1 1 2 refl refl refl;
+      }
+
+  pub open-came : Came (openDrawing n)
+  open-came = record { n = n; calls = []; low = low; high = high; is = open-is }
+
+  -- Accepted.
+  pub opens : {d : Drawing} → d ≡ openDrawing n → Opens n (record { answer = Accepted; drawing = d })
+  opens q =
+      let e : between 3 1024 n ≡ true = rw (le-leb 3 n low, le-leb n 1024 high) in
+      record { answer = rw e; drawing = rw (e, q) (open-is, open-came) }

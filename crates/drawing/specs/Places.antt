@@ -1,0 +1,61 @@
+-- The places of points, from the settled x and the heights.
+use Prim.Native.Nat.{ℕ, pred, _-_, _<_, _≤_}
+use mathlib.Core.Path.{_≡_, refl, sym, ap, _∙_}
+use mathlib.Core.Bool.{Bool, true, false, _&&_}
+use mathlib.Core.List.{List}
+use native.Mathlib.Omega.{arith}
+use lib.ListN.{length, getD, take}
+use lib.Dec.{leb}
+use lib.Seq.{getD-take}
+use borrow.Author.Tests.{leb-true}
+use Rattle.rules.specs.declared.Refusal.the-variants.{NoSuch}
+use Rattle.rules.specs.Basics.{between}
+use Rattle.rules.specs.Points.{Drawing as Plan, at, placeOf, xOf, yOf}
+use Rattle.rules.specs.Lookups.{lookPoint}
+use Rattle.links.specs.declared.Counts.{Counts}
+use Rattle.links.specs.Arrays.{Arrays}
+use Rattle.links.specs.Opening.{noPoints}
+use Rattle.stored.specs.Adding.{Holds}
+use Rattle.settling.specs.Placed.{Settleable, Settled, settleable-of, placed-at}
+use Rattle.drawing.specs.declared.PointSeen.the-variants as Point
+use Rattle.drawing.specs.View.{pointSeen}
+
+pub and-both : (a b : Bool) → (a && b) ≡ true → (a ≡ true) × (b ≡ true)
+and-both true b e = (refl, e)
+and-both false b e = let z : false ≡ true = e in (z, cc)
+
+-- what the test of a point's number says
+pub range : {k : ℕ} (p : ℕ) → between 1 k p ≡ true → (1 ≤ p) × (p ≤ k)
+range {k} p e = let b = and-both (leb 1 p) (leb p k) e in (leb-true 1 p (b .0), leb-true p k (b .1))
+
+-- The arrays of a drawing can be settled, from an array of zeros.
+pub settleable : {q : Plan} {a : Arrays} {c : Counts} → Holds q a c → Settleable noPoints (a .next) (a .gap) (a .owner) (c .k)
+settleable {q} h =
+    let small : q .k ≤ 1024 = omega (arith, h .standing .ranged .room, h .standing .ranged .high) in
+    settleable-of (h .stores) (h .standing .sound) (h .sized) refl small
+
+module _ {q : Plan} {a : Arrays} {c : Counts} {xs : List ℕ} (h : Holds q a c) (s : Settled xs (a .next) (a .gap) (a .owner) (c .k)) where
+  -- The settled x are the drawing's.
+  pub settled-xs : take (q .k) xs ≡ q .xs
+  settled-xs = rw (← h .stores .k) (s .right q (h .standing .sound) (placed-at (h .stores .k) (h .stores)))
+
+  module _ (p : ℕ) (is : between 1 (c .k) p ≡ true) where
+    -- A number of point p, read from the longer list.
+    there : (l : List ℕ) {l′ : List ℕ} → take (q .k) l ≡ l′ → getD l (p - 1) 0 ≡ getD l′ (pred p) 0
+    there l e =
+        let r = range p is in
+        let i : p - 1 ≡ pred p = omega arith in
+        let b : pred p < q .k = omega (arith, h .stores .k) in
+        rw i (sym (getD-take (q .k) l (pred p) 0 b) ∙ ap (λ (m : List ℕ). getD m (pred p) 0) e)
+
+    -- The place of a point.
+    pub point-seen : Point.At (at (getD xs (p - 1) 0) (getD (a .ys) (p - 1) 0)) ≡ pointSeen (lookPoint q p)
+    point-seen =
+        let i : between 1 (q .k) p ≡ true = rw (h .stores .k) at is in
+        rw (there xs settled-xs, there (a .ys) (h .stores .ys), i)
+
+-- No such point.
+pub no-point : {q : Plan} {a : Arrays} {c : Counts} → Holds q a c → (p : ℕ) → between 1 (c .k) p ≡ false → Point.Refused NoSuch 0 ≡ pointSeen (lookPoint q p)
+no-point {q} h p b =
+    let i : between 1 (q .k) p ≡ false = rw (h .stores .k) at b in
+    rw i

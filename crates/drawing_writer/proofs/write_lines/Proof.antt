@@ -1,0 +1,79 @@
+-- `write_lines` meets its contract: after e turns the records of the first e lines are there.
+use Prim.Native.Nat.{_-_, _≤_}
+use mathlib.Core.Path.{_≡_, refl}
+use native.Mathlib.Omega.{arith}
+use borrow.Author.Needs.{needs}
+use lib.ListN.{length}
+use Rattle.drawing_writer.specs.Lists.{Lists, listsOf, several, lineBytes}
+use Rattle.drawing_writer.specs.Stores.{Stored, none-stored, record-behind}
+use Rattle.drawing_writer.proofs.Written.{length-line}
+use Rattle.drawing_writer.proofs.write_lines.Statement.{statement}
+use Rattle.drawing_writer.proofs.write_lines.Tie as tie
+
+abbrev Inv-loop : tie.InvT-loop
+Inv-loop out₀ at x ys dls drs hs words later bends s count e₀ out e =
+    (e ≤ count) × (length out ≡ length out₀) × Stored out₀ at (several (lineBytes s (listsOf x ys dls drs hs words later bends)) e) out
+
+abbrev μ-loop : tie.MeasureT-loop
+μ-loop out₀ at x ys dls drs hs words later bends s count e₀ out e = count - e
+
+-- the lists at entry
+abbrev lists : tie.Start Inv-loop μ-loop → Lists
+lists c =
+    let a = c .args in
+    listsOf (a .x .now) (a .ys .now) (a .dls .now) (a .drs .now) (a .hs .now) (a .words .now) (a .later .now) (a .bends .now)
+
+loop-holds : tie.Need-loop-holds Inv-loop μ-loop
+loop-holds c = (omega arith, refl, none-stored _ _ _)
+
+mul-write-line : tie.Need-mul-write-line Inv-loop μ-loop
+mul-write-line c = search needs
+
+add-write-line : tie.Need-add-write-line Inv-loop μ-loop
+add-write-line c = search needs
+
+write-line-requires : tie.Need-write-line-requires Inv-loop μ-loop
+write-line-requires c κs =
+    let l = c .before .before in
+    let p = l .before .before .pre in
+    record { long = p .long; line = omega arith; fits = p .fits (l .loop .e) (omega arith); room = omega arith }
+
+add-e : tie.Need-add-e Inv-loop μ-loop
+add-e c = search needs
+
+loop-less : tie.Need-loop-less Inv-loop μ-loop
+loop-less c = search needs
+
+loop-again : tie.Need-loop-again Inv-loop μ-loop
+loop-again c =
+    let w = c .before .before in
+    let l = w .before .before .before in
+    let a = l .before .before .args in (
+      omega arith,
+      omega arith,
+      record-behind (lineBytes (a .s) (lists (l .before .before))) 12 (l .loop .e) (length-line (a .s) (lists (l .before .before))) refl (l .loop .inv .2) (w .write-line .ensures),
+    )
+
+same-length : tie.Need-same-length Inv-loop μ-loop
+same-length c = search needs
+
+returns : tie.Need-returns Inv-loop μ-loop
+returns c =
+    let n : c .before .loop .e ≡ c .before .before .before .args .count = omega arith in
+    rw n at (c .before .loop .inv .2)
+
+pub write-lines-spec : {M : Type 1} → statement M
+write-lines-spec =
+    tie.close
+    (tie.spec
+    Inv-loop
+    μ-loop
+    loop-holds
+    mul-write-line
+    add-write-line
+    write-line-requires
+    add-e
+    loop-less
+    loop-again
+    same-length
+    returns)

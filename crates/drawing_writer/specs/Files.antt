@@ -1,0 +1,136 @@
+-- The file that the lists give is the drawing file of the finished drawing that they hold.
+use Prim.Native.Nat.{ℕ, zero, suc, pred, _+_, _*_, _<_, _≤_}
+use mathlib.Core.Path.{_≡_, refl, ap, ap₂, sym, _∙_}
+use mathlib.Core.List.{List, [], _∷_, _++_, append-assoc, append-nil}
+use native.Mathlib.Omega.{arith}
+use lib.ListN.{length, getD, take, length-append}
+use lib.Seq.{getD-take}
+use Rattle.rules.specs.declared.Line.{Line}
+use Rattle.rules.specs.declared.Bend.{Bend}
+use Rattle.rules.specs.declared.Bend.the-variants.{Left, Right, Middle, Straight}
+use Rattle.rules.specs.Points.{Drawing, m, W, lineAt}
+use Rattle.rules.specs.Ports.{bendOf, bendPlace}
+use Rattle.rules.specs.Records.{written, pointPlace, lineShape, endShape}
+use Rattle.rules.specs.DrawingFile.{highest, writePoints, lineWords, writeLines, drawingBytes}
+use Rattle.links.specs.declared.Counts.{Counts}
+use Rattle.promise.specs.Bounds.{Standing, width-most, bend-most}
+use Rattle.promise.specs.Within.{counted}
+use Rattle.settling.specs.Bending.{Shows, bend-right}
+use Rattle.bends.specs.Codes.{bendFrom, Indexed, bend-back}
+use Rattle.drawing_writer.specs.Lists.{Lists, several, pointBytes, lineIn, bendAt, lineBytes, fileBytes}
+use Rattle.drawing_writer.specs.Stores.{length-several}
+use Rattle.drawing_writer.specs.Finished.{Finished}
+
+-- ---- several records
+
+-- The first of them stands before the others.
+several-cons : (f : ℕ → List ℕ) (n : ℕ) → several f (suc n) ≡ f 0 ++ several (λ i. f (suc i)) n
+unfolding several
+several-cons f zero = sym (append-nil (f 0))
+several-cons f (suc n) = ap (λ (t : List ℕ). t ++ f (suc n)) (several-cons f n) ∙ append-assoc (f 0) (several (λ i. f (suc i)) n) (f (suc n))
+
+-- Records that are the same one by one are the same together.
+several-same : (f g : ℕ → List ℕ) (n : ℕ) → ((i : ℕ) → i < n → f i ≡ g i) → several f n ≡ several g n
+unfolding several
+several-same f g zero h = refl
+several-same f g (suc n) h = ap₂ (λ (s t : List ℕ). s ++ t) (several-same f g n (λ i b. h i (omega arith))) (h n (omega arith))
+
+-- The point records are those of the points.
+points-are : (s : ℕ) (xs ys : List ℕ) → length xs ≡ length ys → writePoints s xs ys ≡ several (pointBytes s xs ys) (length xs)
+unfolding several
+points-are s [] ys h = refl
+points-are s (x ∷ xs) [] h = absurd (omega arith)
+points-are s (x ∷ xs) (y ∷ ys) h =
+    ap (λ (t : List ℕ). written pointPlace (s * x ∷ s * y ∷ []) ++ t) (points-are s xs ys (omega arith)) ∙
+    sym (several-cons (pointBytes s (x ∷ xs) (y ∷ ys)) (length xs))
+
+-- the record of a line of the drawing
+abbrev lineRecord : Drawing → Line → List ℕ
+lineRecord d l = written lineShape (lineWords (d .s) l (bendPlace d l))
+
+-- The line records are those of the lines.
+lines-are : (d : Drawing) (ls : List Line) (z : Line) → writeLines d ls ≡ several (λ e. lineRecord d (getD ls e z)) (length ls)
+unfolding several
+lines-are d [] z = refl
+lines-are d (l ∷ ls) z =
+    ap (λ (t : List ℕ). lineRecord d l ++ t) (lines-are d ls z) ∙ sym (several-cons (λ e. lineRecord d (getD (l ∷ ls) e z)) (length ls))
+
+-- ---- the length of the file
+
+-- Of any drawing from opening and calls.
+pub length-file : {d : Drawing} → Standing d → length (drawingBytes d) ≡ 12 + 6 * d .k + 12 * length (d .lines)
+unfolding drawingBytes
+length-file {d} t =
+    let z = t .sound .sized in
+    let p = writePoints (d .s) (d .xs) (d .ys) in
+    let l = writeLines d (d .lines) in
+    let lp : length p ≡ 6 * length (d .xs) = ap length (points-are (d .s) (d .xs) (d .ys) (z .xs ∙ sym (z .ys))) ∙ length-several (pointBytes (d .s) (d .xs) (d .ys)) 6 (λ i. refl) (length (d .xs)) in
+    let ll : length l ≡ 12 * length (d .lines) = ap length (lines-are d (d .lines) _) ∙ length-several (λ e. lineRecord d (lineAt d e)) 12 (λ e. refl) (length (d .lines)) in
+    omega (arith, length-append p (l ++ written endShape []), length-append l (written endShape []), z .xs)
+
+-- Of a finished one, whose boundary has three points, 42 n - 60 bytes.
+pub length-drawing : {d : Drawing} → Standing d → m d ≡ 3 → d .k ≡ d .n → length (drawingBytes d) + 60 ≡ 42 * d .n
+length-drawing t three full = omega (arith, length-file t, counted (t .sound))
+
+-- ---- the lists of a finished drawing
+
+module _ {d : Drawing} {a : Lists} {c : Counts} (h : Finished d a c) where
+  -- The lists show the drawing.
+  pub shows : Shows d (a .x) (a .ys) (a .dls) (a .drs) (a .hs)
+  shows = record { x = rw (h .k) at (h .settled); y = h .ys; dl = h .dls; dr = h .drs; h = h .hs }
+
+  pub x-is : (i : ℕ) → i < d .k → getD (a .x) i 0 ≡ getD (d .xs) i 0
+  x-is i b = sym (getD-take (d .k) (a .x) i 0 b) ∙ ap (λ (l : List ℕ). getD l i 0) (shows .x)
+
+  pub y-is : (i : ℕ) → i < d .k → getD (a .ys) i 0 ≡ getD (d .ys) i 0
+  y-is i b = sym (getD-take (d .k) (a .ys) i 0 b) ∙ ap (λ (l : List ℕ). getD l i 0) (h .ys)
+
+  module _ (e : ℕ) (el : e < length (d .lines)) where
+    -- The ends of a line are placed points.
+    ends : (0 < lineAt d e .later) × (lineAt d e .later ≤ d .k) × (0 < lineAt d e .earlier) × (lineAt d e .earlier ≤ d .k)
+    ends =
+        let some = h .standing .sound .ended .ends e el in
+        let most : (pred (lineAt d e .earlier) < d .k) × (pred (lineAt d e .later) < d .k) = h .standing .sound .inv .core .lines .ends e el in
+        (some .1, omega (arith, most .1), some .0, omega (arith, most .0))
+
+    -- A right or left port's index is small: its bend lies in the frame.
+    indexed : Indexed (lineAt d e .bend)
+    indexed = go (lineAt d e .bend) (bend-most d (h .standing) e el .1)
+      where
+        go : (b : Bend) → 2 * bendOf d (lineAt d e .later) (lineAt d e .earlier) b .y + 2 ≤ W d → Indexed b
+        go (Right j) k = omega (arith, width-most d (h .standing))
+        go (Left j) k = omega (arith, width-most d (h .standing))
+        go (Middle i) k = tt
+        go Straight k = tt
+
+    -- The line that the lists have is the drawing's.
+    pub line-is : lineIn a e ≡ lineAt d e
+    line-is =
+        let v = h .later e el in
+        let u = h .entry e el in
+        let b : bendFrom (getD (a .bends) e 0) ≡ lineAt d e .bend = ap bendFrom (h .bend e el) ∙ bend-back (lineAt d e .bend) indexed in
+        λ i. record { later = v i; earlier = u i .point; bend = b i; cut = u i .cut }
+
+    -- So is its bend.
+    pub bend-is : bendAt a (lineAt d e) ≡ bendPlace d (lineAt d e)
+    bend-is = bend-right shows (lineAt d e .later) (lineAt d e .earlier) (ends .0) (ends .1) (ends .2) (ends .3) (lineAt d e .bend)
+
+    record-is : lineBytes (d .s) a e ≡ lineRecord d (lineAt d e)
+    unfolding lineBytes
+    record-is =
+        ap (λ (l : Line). written lineShape (lineWords (d .s) l (bendAt a l))) line-is ∙
+        ap (λ b. written lineShape (lineWords (d .s) (lineAt d e) b)) bend-is
+
+  -- The file that the lists give is the drawing's.
+  pub file-is : fileBytes a c ≡ drawingBytes d
+  unfolding fileBytes drawingBytes
+  file-is =
+      let z = h .standing .sound .sized in
+      let k = h .standing .ranged .three in
+      let top : highest (take (c .k) (a .ys)) ≡ highest (d .ys) = ap highest (ap (λ (n : ℕ). take n (a .ys)) (h .k) ∙ h .ys) in
+      let p : several (pointBytes (d .s) (a .x) (a .ys)) (d .k) ≡ writePoints (d .s) (d .xs) (d .ys) =
+      several-same (pointBytes (d .s) (a .x) (a .ys)) (pointBytes (d .s) (d .xs) (d .ys)) (d .k) (λ i b. rw (x-is i b, y-is i b)) ∙
+      ap (several (pointBytes (d .s) (d .xs) (d .ys))) (sym (z .xs)) ∙ sym (points-are (d .s) (d .xs) (d .ys) (z .xs ∙ sym (z .ys))) in
+      let l : several (lineBytes (d .s) a) (length (d .lines)) ≡ writeLines d (d .lines) =
+      several-same (lineBytes (d .s) a) (λ e. lineRecord d (lineAt d e)) (length (d .lines)) record-is ∙ sym (lines-are d (d .lines) _) in
+      rw (h .n, h .s, top, x-is 1 (omega arith), h .k, h .lines, p, l)

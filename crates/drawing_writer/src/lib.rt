@@ -1,0 +1,214 @@
+// Writes the drawing file of a finished drawing from the lent arrays and its settled x.
+use bends::bend_from;
+use entries::split;
+use links::Counts;
+use settling::bend_of;
+use words::broad;
+use words::narrow;
+use words::put_word;
+ghost use mathlib.Core.Path.{_≡_};
+ghost use mathlib.Core.List.{[], _∷_};
+ghost use Prim.Native.Nat.{_+_, _*_, _<_, _≤_};
+ghost use lib.ListN.{length, take};
+ghost use Rattle.rules.specs.Basics.{if_then_else_};
+ghost use Rattle.rules.specs.Points.{Drawing};
+ghost use Rattle.rules.specs.Refusals.{good};
+ghost use Rattle.rules.specs.Records.{written, drawingHead, pointPlace, lineShape};
+ghost use Rattle.rules.specs.DrawingFile.{highest, drawingBytes};
+ghost use Rattle.rules.specs.Output.{filled};
+ghost use Rattle.drawing_writer.specs.Lists.{listsOf, several, pointBytes, lineBytes};
+ghost use Rattle.drawing_writer.specs.Stores.{Stored};
+ghost use Rattle.drawing_writer.specs.Finished.{Finished, Writable, PointsReady, LineReady, LinesReady};
+
+// The largest y of the first k points.
+fn largest(ys: &[u16; 1024], k: usize) -> usize
+    requires { ⌜ (length (now ys) ≡ 1024) × (k ≤ 1024) ⌝ }
+    ensures { λ r. ⌜ r ≡ highest (take k (now (ys .entry))) ⌝ }
+{
+    let mut top = 0;
+    let mut i = 0;
+    while i < k {
+        let y = broad(ys[i]);
+        if top < y {
+            top = y;
+        }
+        i += 1;
+    }
+    top
+}
+
+// The header: 44 48, n, s, width, height.
+fn write_head(out: &mut [u8], n: u16, s: u16, width: u16, height: u16)
+    requires { ⌜ 10 ≤ length (now out) ⌝ }
+    ensures { λ _. ⌜ Stored (now (out .entry)) 0 (written drawingHead (n ∷ s ∷ width ∷ height ∷ [])) (now (out .exit)) ⌝ }
+{
+    put_word(out, 0, 0x4448);
+    put_word(out, 2, n);
+    put_word(out, 4, s);
+    put_word(out, 6, width);
+    put_word(out, 8, height);
+}
+
+// A point's record: 50 4F, x, y.
+fn write_point(out: &mut [u8], at: usize, x: u16, y: u16)
+    requires { ⌜ at + 6 ≤ length (now out) ⌝ }
+    ensures { λ _. ⌜ Stored (now (out .entry)) at (written pointPlace (x ∷ y ∷ [])) (now (out .exit)) ⌝ }
+{
+    put_word(out, at, 0x504F);
+    put_word(out, at + 2, x);
+    put_word(out, at + 4, y);
+}
+
+// The records of the first k points, behind the header.
+fn write_points(out: &mut [u8], x: &[u16; 1024], ys: &[u16; 1024], s: usize, k: usize)
+    requires { ⌜ PointsReady (now x) (now ys) s k (now out) ⌝ }
+    ensures { λ _. ⌜ Stored (now (out .entry)) 10 (several (pointBytes s (now (x .entry)) (now (ys .entry))) k) (now (out .exit)) ⌝ }
+{
+    let mut i = 0;
+    while i < k {
+        let px = narrow(s * broad(x[i]));
+        let py = narrow(s * broad(ys[i]));
+        write_point(out, 10 + 6 * i, px, py);
+        i += 1;
+    }
+}
+
+// How a line is marked: 1 for cut, 0 for guide.
+fn mark_of(cut: bool) -> u16
+    ensures { λ r. ⌜ r ≡ (if cut then 1 else 0) ⌝ }
+{
+    if cut { 1 } else { 0 }
+}
+
+// A line's record: 4C 4E, later point, earlier point, bend x, bend y, its mark.
+fn write_numbers(out: &mut [u8], at: usize, later: u16, earlier: u16, x: u16, y: u16, mark: u16)
+    requires { ⌜ at + 12 ≤ length (now out) ⌝ }
+    ensures { λ _. ⌜ Stored (now (out .entry)) at (written lineShape (later ∷ earlier ∷ x ∷ y ∷ mark ∷ [])) (now (out .exit)) ⌝ }
+{
+    put_word(out, at, 0x4C4E);
+    put_word(out, at + 2, later);
+    put_word(out, at + 4, earlier);
+    put_word(out, at + 6, x);
+    put_word(out, at + 8, y);
+    put_word(out, at + 10, mark);
+}
+
+// The record of line e, from what the arrays hold of it.
+fn write_line(
+    out: &mut [u8],
+    at: usize,
+    x: &[u16; 1024],
+    ys: &[u16; 1024],
+    dls: &[u16; 1024],
+    drs: &[u16; 1024],
+    hs: &[u16; 1024],
+    words: &[u16; 3072],
+    later: &[u16; 3072],
+    bends: &[u16; 3072],
+    s: usize,
+    e: usize,
+)
+    requires { ⌜ LineReady (listsOf (now x) (now ys) (now dls) (now drs) (now hs) (now words) (now later) (now bends)) s e at (now out) ⌝ }
+    ensures { λ _. ⌜ Stored (now (out .entry)) at
+        (lineBytes s (listsOf (now (x .entry)) (now (ys .entry)) (now (dls .entry)) (now (drs .entry)) (now (hs .entry)) (now (words .entry)) (now (later .entry)) (now (bends .entry))) e)
+        (now (out .exit)) ⌝ }
+{
+    let end = later[e];
+    let word = words[e];
+    let entry = split(word);
+    let bend = bend_from(bends[e]);
+    let place = bend_of(x, ys, dls, drs, hs, broad(end), broad(entry.point), bend);
+    let bend_x = narrow(s * broad(place.x));
+    let bend_y = narrow(s * broad(place.y));
+    write_numbers(
+        out,
+        at,
+        end,
+        entry.point,
+        bend_x,
+        bend_y,
+        mark_of(entry.cut),
+    );
+}
+
+// The records of the first `count` lines, from the place `at` on.
+fn write_lines(
+    out: &mut [u8],
+    at: usize,
+    x: &[u16; 1024],
+    ys: &[u16; 1024],
+    dls: &[u16; 1024],
+    drs: &[u16; 1024],
+    hs: &[u16; 1024],
+    words: &[u16; 3072],
+    later: &[u16; 3072],
+    bends: &[u16; 3072],
+    s: usize,
+    count: usize,
+)
+    requires { ⌜ LinesReady (listsOf (now x) (now ys) (now dls) (now drs) (now hs) (now words) (now later) (now bends)) s count at (now out) ⌝ }
+    ensures { λ _. ⌜ Stored (now (out .entry)) at
+        (several (lineBytes s (listsOf (now (x .entry)) (now (ys .entry)) (now (dls .entry)) (now (drs .entry)) (now (hs .entry)) (now (words .entry)) (now (later .entry)) (now (bends .entry)))) count)
+        (now (out .exit)) ⌝ }
+{
+    let mut e = 0;
+    while e < count {
+        write_line(
+            out,
+            at + 12 * e,
+            x,
+            ys,
+            dls,
+            drs,
+            hs,
+            words,
+            later,
+            bends,
+            s,
+            e,
+        );
+        e += 1;
+    }
+}
+
+// The drawing file of the finished drawing that the arrays hold, whose x are settled: into the start of the buffer.
+pub fn write_drawing(
+    out: &mut [u8],
+    x: &[u16; 1024],
+    ys: &[u16; 1024],
+    dls: &[u16; 1024],
+    drs: &[u16; 1024],
+    hs: &[u16; 1024],
+    words: &[u16; 3072],
+    later: &[u16; 3072],
+    bends: &[u16; 3072],
+    c: Counts,
+)
+    requires { ⌜ Writable (listsOf (now x) (now ys) (now dls) (now drs) (now hs) (now words) (now later) (now bends)) c (now out) ⌝ }
+    ensures { λ _. ⌜
+        ((d : Drawing) → Finished d (listsOf (now (x .entry)) (now (ys .entry)) (now (dls .entry)) (now (drs .entry)) (now (hs .entry)) (now (words .entry)) (now (later .entry)) (now (bends .entry))) c →
+        now (out .exit) ≡ filled (now (out .entry)) (good (drawingBytes d)))
+        ⌝ }
+{
+    let s = c.s;
+    let width = narrow(s * broad(x[1]));
+    let height = narrow(s * largest(ys, c.k));
+    write_head(out, narrow(c.n), narrow(s), width, height);
+    write_points(out, x, ys, s, c.k);
+    let points = 6 * c.k;
+    write_lines(
+        out,
+        10 + points,
+        x,
+        ys,
+        dls,
+        drs,
+        hs,
+        words,
+        later,
+        bends,
+        s,
+        c.lines,
+    );
+    put_word(out, 10 + points + 12 * c.lines, 0x454E);
+}

@@ -1,0 +1,62 @@
+-- From the stored lines of a finished drawing to the parts of its order file, and back.
+use Prim.Native.Nat.{ℕ, _+_, _*_, _<_, _≤_}
+use mathlib.Core.Path.{_≡_, ap, sym, _∙_}
+use mathlib.Core.List.{List, [], _∷_, _++_}
+use native.Mathlib.Omega.{arith}
+use lib.ListN.{length, length-append}
+use Rattle.rules.specs.Refusals.{good}
+use Rattle.rules.specs.Points.{Drawing}
+use Rattle.rules.specs.OrderFile.{writeOrder}
+use Rattle.rules.specs.Output.{filled}
+use Rattle.rules.specs.RoundTrip.{length-bytes}
+use Rattle.links.specs.declared.Counts.{Counts}
+use Rattle.promise.specs.Bounds.{lines-most}
+use Rattle.exchange.specs.Built.{Whole}
+use Rattle.exchange.specs.Replay.{replayed}
+use Rattle.order_writer.specs.Pasting.{Pasted, pasted-both, length-after, pasted-start}
+use Rattle.order_writer.specs.Writing.{headWords, pointsWords, orderWords, LinesStored, OrderWritable, OrderWritten}
+use Rattle.order_writer.specs.Grouping.{order-is}
+
+-- the length of the order file
+length-order : {d : Drawing} {words later : List ℕ} {c : Counts} → Whole d → LinesStored d words later c → length (writeOrder d) ≡ 2 * length (orderWords words later c)
+length-order {words = words} {later} {c} h t = sym (ap length (order-is h t)) ∙ length-bytes (orderWords words later c)
+
+-- the numbers are small, and each part has room
+pub record Parts (out words later : List ℕ) (c : Counts) : Type 0 where
+  pub n : c .n ≤ 1024
+  pub s : c .s ≤ 8
+  pub lines : c .lines ≤ 3072
+  pub room : 2 * length (headWords (c .n) (c .s)) + (2 * length (pointsWords words later (c .lines) (c .n) 1 0) + 2) ≤ length out
+
+pub parts : {out words later : List ℕ} {c : Counts} → OrderWritable out words later c → Parts out words later c
+parts {words = words} {later} {c} h =
+    let w = h .whole in
+    let t = h .stored in
+    let points = pointsWords words later (c .lines) (c .n) 1 0 in
+    record {
+      n = omega (arith, t .n, w .high);
+      s = omega (arith, t .s, w .scale .1);
+      lines = omega (arith, t .lines, lines-most (h .d) (replayed (w .low) (w .high) (w .built) .standing));
+      room = omega (arith, h .room, length-order w t, length-append (headWords (c .n) (c .s)) (points ++ (0x454E ∷ [])), length-append points (0x454E ∷ []));
+    }
+
+-- the points' records have room behind the header
+pub points-room : {out words later : List ℕ} {c : Counts} {out′ : List ℕ} {at : ℕ} → Parts out words later c → Pasted out 0 (headWords (c .n) (c .s)) out′ at →
+    at + 2 * length (pointsWords words later (c .lines) (c .n) 1 0) ≤ length out′
+points-room h a = omega (arith, h .room, a .behind, length-after a)
+
+-- and the end behind them
+pub end-room : {out words later : List ℕ} {c : Counts} {out′ out″ : List ℕ} {at end : ℕ} → Parts out words later c → Pasted out 0 (headWords (c .n) (c .s)) out′ at →
+    Pasted out′ at (pointsWords words later (c .lines) (c .n) 1 0) out″ end → end + 1 < length out″
+end-room h a b = omega (arith, h .room, a .behind, length-after a, b .behind, length-after b)
+
+-- the three, one behind the other, are the order file of every finished drawing whose lines are stored so
+pub order-written : {out words later : List ℕ} {c : Counts} {out′ out″ out‴ : List ℕ} {at end r : ℕ} → OrderWritable out words later c → Pasted out 0 (headWords (c .n) (c .s)) out′ at →
+    Pasted out′ at (pointsWords words later (c .lines) (c .n) 1 0) out″ end → Pasted out″ end (0x454E ∷ []) out‴ r → (d : Drawing) → Whole d → LinesStored d words later c → OrderWritten d out out‴ r
+order-written {out} {words} {later} {c} {out‴ = out‴} {r = r} h head points end d w t =
+    let all : Pasted out 0 (orderWords words later c) out‴ r = pasted-both head (pasted-both points end) in
+    let room : 2 * length (orderWords words later c) ≤ length out = omega (arith, h .room, length-order (h .whole) (h .stored)) in
+    record {
+      size = omega (arith, all .behind, length-order w t);
+      bytes = all .is ∙ pasted-start out (orderWords words later c) room ∙ ap (λ (l : List ℕ). filled out (good l)) (order-is w t);
+    }

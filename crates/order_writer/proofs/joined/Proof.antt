@@ -1,0 +1,20 @@
+-- `order_writer::joined` meets its contract: what `split` gives has a point below 32768, and `join` puts it together.
+use Prim.Native.Nat.{_%_, _<_}
+use mathlib.Core.Path.{_∙_, ap}
+use native.Mathlib.Omega.{arith}
+use borrow.Author.Needs.{needs}
+use Rattle.rules.specs.Entries.{wordOf}
+use Rattle.order_writer.proofs.joined.Statement.{statement}
+use Rattle.order_writer.proofs.joined.Tie as tie
+
+split-requires : tie.Need-split-requires
+split-requires c κs = search needs
+
+join-requires : tie.Need-join-requires
+join-requires c κs = let low : c .before .args .w % 32768 < 32768 = omega arith in rw (c .split .ensures) low
+
+returns : tie.Need-returns
+returns c = c .join .ensures ∙ ap wordOf (c .before .split .ensures)
+
+pub joined-spec : {M : Type 1} → statement M
+joined-spec = tie.close (tie.spec split-requires join-requires returns)

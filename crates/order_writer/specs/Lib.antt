@@ -1,0 +1,4 @@
+pub mod Pasting
+pub mod Writing
+pub mod Grouping
+pub mod Sizes

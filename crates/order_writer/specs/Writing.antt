@@ -1,0 +1,77 @@
+-- What the order writer writes, from the stored lines: numbers of 16 bits, in order.
+use Prim.Native.Nat.{ℕ, zero, suc, _+_, _-_, _<_, _≤_}
+use mathlib.Core.Path.{_≡_}
+use mathlib.Core.List.{List, [], _∷_, _++_}
+use lib.ListN.{length, getD}
+use lib.Dec.{eqb}
+use Rattle.rules.specs.Basics.{if_then_else_}
+use Rattle.rules.specs.Refusals.{good}
+use Rattle.rules.specs.Entries.{entryOf, wordOf}
+use Rattle.rules.specs.Points.{Drawing, lineAt}
+use Rattle.rules.specs.OrderFile.{writeOrder}
+use Rattle.rules.specs.Output.{filled}
+use Rattle.links.specs.declared.Counts.{Counts}
+use Rattle.links.specs.Arrays.{Arrays, Stores}
+use Rattle.exchange.specs.Built.{Whole}
+
+-- ---- the numbers
+
+-- how many of the `left` lines from `from` on have p as their later point, in succession
+unfoldable pub countOf : List ℕ → ℕ → ℕ → ℕ → ℕ
+countOf later p from zero = 0
+countOf later p from (suc left) = if eqb (getD later from 0) p then suc (countOf later p (suc from) left) else 0
+
+-- an entry's number, split and joined
+abbrev pub again : ℕ → ℕ
+again w = wordOf (entryOf w)
+
+-- the entries of c lines from `from` on
+unfoldable pub entryWords : List ℕ → ℕ → ℕ → List ℕ
+entryWords words from zero = []
+entryWords words from (suc c) = again (getD words from 0) ∷ entryWords words (suc from) c
+
+-- a point's record: mark, count and entries
+abbrev pub pointWords : List ℕ → ℕ → ℕ → List ℕ
+pointWords words from c = 0x5054 ∷ c ∷ entryWords words from c
+
+-- the records of c points, p, p + 1, .., whose lines begin at `from`, of `lines` in all
+unfoldable pub pointsWords : List ℕ → List ℕ → ℕ → ℕ → ℕ → ℕ → List ℕ
+pointsWords words later lines zero p from = []
+pointsWords words later lines (suc c) p from =
+    let count = countOf later p from (lines - from) in
+    pointWords words from count ++ pointsWords words later lines c (suc p) (from + count)
+
+-- the header, with the scale where it isn't 1
+abbrev pub headWords : ℕ → ℕ → List ℕ
+headWords n s = 0x4844 ∷ n ∷ (if eqb s 1 then [] else 0x5343 ∷ s ∷ [])
+
+-- the whole file
+abbrev pub orderWords : List ℕ → List ℕ → Counts → List ℕ
+orderWords words later c = headWords (c .n) (c .s) ++ (pointsWords words later (c .lines) (c .n) 1 0 ++ (0x454E ∷ []))
+
+-- ---- what the writer asks, and what it leaves
+
+-- the two lists and the numbers store the lines of the drawing d
+pub record LinesStored (d : Drawing) (words laters : List ℕ) (c : Counts) : Type 0 where
+  pub n : c .n ≡ d .n
+  pub s : c .s ≡ d .s
+  pub k : c .k ≡ d .k
+  pub lines : c .lines ≡ length (d .lines)
+  pub later : (e : ℕ) → e < length (d .lines) → getD laters e 0 ≡ lineAt d e .later
+  pub entry : (e : ℕ) → e < length (d .lines) → entryOf (getD words e 0) ≡ record { point = lineAt d e .earlier; cut = lineAt d e .cut }
+
+-- as the arrays that store the drawing do
+pub lines-stored : {d : Drawing} {a : Arrays} {c : Counts} → Stores d a c → LinesStored d (a .words) (a .later) c
+lines-stored t = record { n = t .n; s = t .s; k = t .k; lines = t .lines; later = t .later; entry = t .entry }
+
+-- a finished drawing's lines are stored, and its order file has room
+pub record OrderWritable (out words later : List ℕ) (c : Counts) : Type 0 where
+  pub d : Drawing
+  pub whole : Whole d
+  pub stored : LinesStored d words later c
+  pub room : length (writeOrder d) ≤ length out
+
+-- the order file of d stands at the start of the buffer, of which the rest stays; r is its length
+pub record OrderWritten (d : Drawing) (out out′ : List ℕ) (r : ℕ) : Type 0 where
+  pub size : r ≡ length (writeOrder d)
+  pub bytes : out′ ≡ filled out (good (writeOrder d))
