@@ -1,2 +1,3 @@
 pub mod Going
+pub mod Telling
 pub mod Outcomes

@@ -1,17 +1,15 @@
 -- What adding leaves: the answer and the drawing of the rules, and, refused, the drawing as it was.
 use Prim.Native.Nat.{ℕ}
-use mathlib.Core.Path.{_≡_, refl, sym, ap, _∙_}
+use mathlib.Core.Path.{_≡_, refl, sym, _∙_}
 use mathlib.Core.List.{List, [], _∷_, _++_}
 use native.Mathlib.Omega.{arith}
-use Rattle.rules.specs.declared.Answer.{Answer}
-use Rattle.rules.specs.declared.Answer.the-variants.{Accepted, Refused}
+use Rattle.rules.specs.declared.Answer.the-variants.{Refused}
 use Rattle.rules.specs.declared.Refusal.{Refusal}
 use Rattle.rules.specs.Refusals.{Result, good, refused, answer}
 use Rattle.rules.specs.Points.{Drawing as Plan}
 use Rattle.rules.specs.Adding.{add}
 use Rattle.rules.specs.Calls.{left, after, drawn}
 use Rattle.links.specs.declared.Added.{Added}
-use Rattle.links.specs.declared.Counts.{Counts}
 use Rattle.links.specs.Arrays.{Arrays}
 use Rattle.links.specs.Storing.{judged, arraysAfter, countsAfter}
 use Rattle.stored.specs.Adding.{Holds, called}

@@ -1,26 +1,25 @@
 -- A line, read from the arrays, is the drawing's; so are its bend and where that lies.
-use Prim.Native.Nat.{ℕ, suc, pred, _+_, _-_, _*_, _<_, _≤_}
-use mathlib.Core.Path.{_≡_, refl, sym, ap, _∙_}
+use Prim.Native.Nat.{ℕ, pred, _+_, _-_, _<_, _≤_}
+use mathlib.Core.Path.{_≡_, refl, ap, _∙_}
 use mathlib.Core.List.{List}
 use native.Mathlib.Omega.{arith}
-use lib.ListN.{length, getD, take}
-use lib.Dec.{leb, ltb}
+use lib.ListN.{length, getD}
+use lib.Dec.{ltb}
 use borrow.Author.Tests.{le-ltb, lt-ltb}
 use Rattle.rules.specs.declared.Line.{Line}
-use Rattle.rules.specs.declared.Place.{Place}
 use Rattle.rules.specs.declared.Entry.{Entry}
 use Rattle.rules.specs.declared.Bend.{Bend}
 use Rattle.rules.specs.declared.Bend.the-variants.{Left, Right, Middle, Straight}
 use Rattle.rules.specs.Basics.{if_then_else_}
 use Rattle.rules.specs.Entries.{entryOf}
-use Rattle.rules.specs.Points.{Drawing as Plan, yOf, lineAt}
+use Rattle.rules.specs.Points.{Drawing as Plan, lineAt}
 use Rattle.rules.specs.Lookups.{lookLine}
 use Rattle.rules.specs.declared.Refusal.the-variants.{NoSuch}
-use Rattle.rules.specs.Ports.{bendOf, bendPlace}
+use Rattle.rules.specs.Ports.{bendOf}
 use Rattle.links.specs.declared.Counts.{Counts}
 use Rattle.links.specs.Arrays.{Arrays, bendCode}
 use Rattle.promise.specs.Nets.{kindOf}
-use Rattle.promise.specs.Bounds.{Standing, width-most, lines-most, bend-most, ports-most}
+use Rattle.promise.specs.Bounds.{width-most, lines-most, bend-most, ports-most}
 use Rattle.stored.specs.Adding.{Holds}
 use Rattle.settling.specs.Placed.{Settled}
 use Rattle.settling.specs.Bends.{bendIn, Bendable}
@@ -64,15 +63,13 @@ bend-back (Right j) h = let e : 4096 + j - 4096 ≡ j = omega arith in from-righ
 bend-back (Middle j) h = let e : 12288 + j - 12288 ≡ j = omega arith in from-middle (12288 + j) (omega arith) ∙ ap Middle e
 bend-back Straight h = from-straight 0 (omega arith)
 
+-- the line of an entry, with its later point and its bend
+abbrev pub lineOf : Entry → ℕ → Bend → Line
+lineOf x later bend = record { later = later; earlier = x .point; bend = bend; cut = x .cut }
+
 -- line e, read from the arrays
 unfoldable pub lineIn : List ℕ → List ℕ → List ℕ → ℕ → Line
-lineIn words later bends e =
-    record {
-      later = getD later e 0;
-      earlier = entryOf (getD words e 0) .point;
-      bend = bendFrom (getD bends e 0);
-      cut = entryOf (getD words e 0) .cut;
-    }
+lineIn words later bends e = lineOf (entryOf (getD words e 0)) (getD later e 0) (bendFrom (getD bends e 0))
 
 module _ {q : Plan} {a : Arrays} {c : Counts} (h : Holds q a c) (e : ℕ) (el : e < length (q .lines)) where
   -- Its ends are placed points.

@@ -13,7 +13,6 @@ use Rattle.links.specs.declared.Counts.{Counts}
 use Rattle.links.specs.Arrays.{Arrays}
 use Rattle.links.specs.Opening.{noPoints, noLines, openArrays, openCounts}
 use Rattle.promise.specs.Bounds.{standing-start}
-use Rattle.stored.specs.Adding.{Holds}
 use Rattle.stored.specs.Opened.{sized-open, stores-open}
 use Rattle.drawing.specs.declared.Drawing.{Drawing}
 use Rattle.drawing.specs.declared.Done.{Done}

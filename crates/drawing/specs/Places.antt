@@ -4,13 +4,13 @@ use mathlib.Core.Path.{_≡_, refl, sym, ap, _∙_}
 use mathlib.Core.Bool.{Bool, true, false, _&&_}
 use mathlib.Core.List.{List}
 use native.Mathlib.Omega.{arith}
-use lib.ListN.{length, getD, take}
+use lib.ListN.{getD, take}
 use lib.Dec.{leb}
 use lib.Seq.{getD-take}
 use borrow.Author.Tests.{leb-true}
 use Rattle.rules.specs.declared.Refusal.the-variants.{NoSuch}
 use Rattle.rules.specs.Basics.{between}
-use Rattle.rules.specs.Points.{Drawing as Plan, at, placeOf, xOf, yOf}
+use Rattle.rules.specs.Points.{Drawing as Plan, at}
 use Rattle.rules.specs.Lookups.{lookPoint}
 use Rattle.links.specs.declared.Counts.{Counts}
 use Rattle.links.specs.Arrays.{Arrays}

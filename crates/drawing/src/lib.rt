@@ -2,6 +2,7 @@
 use links::Counts;
 use rules::Answer;
 use rules::Bend;
+use rules::Entry;
 use rules::Line;
 use rules::Place;
 use rules::Refusal;
@@ -16,7 +17,7 @@ ghost use Rattle.links.specs.Opening.{threeLines, noPoints};
 ghost use Rattle.settling.specs.Placed.{Settleable, Settled};
 ghost use Rattle.drawing.specs.View.{Is, Came, pointSeen, lineSeen, sought};
 ghost use Rattle.drawing.specs.Opens.{blank, openDrawing, Opens};
-ghost use Rattle.drawing.specs.Lines.{bendFrom, lineIn};
+ghost use Rattle.drawing.specs.Lines.{bendFrom, lineOf, lineIn};
 ghost use Rattle.drawing.specs.Cuts.{cutTo, FirstCut};
 ghost use Rattle.drawing.specs.Adds.{AddsTo};
 
@@ -260,19 +261,24 @@ fn bend_from(code: u16) -> Bend
     Bend::Middle(code - 12288)
 }
 
+// The line of an entry, with its later point and its bend.
+fn line_of(x: Entry, later: u16, bend: Bend) -> Line
+    ensures { λ r. ⌜ r ≡ lineOf x later bend ⌝ }
+{
+    Line {
+        later,
+        earlier: x.point,
+        bend,
+        cut: x.cut,
+    }
+}
+
 // Line e of the arrays.
 fn line_in(words: &[u16; 3072], later: &[u16; 3072], bends: &[u16; 3072], e: usize) -> Line
     requires { ⌜ (length (now words) ≡ 3072) × (length (now later) ≡ 3072) × (length (now bends) ≡ 3072) × (e < 3072) ⌝ }
     ensures { λ r. ⌜ r ≡ lineIn (now (words .entry)) (now (later .entry)) (now (bends .entry)) e ⌝ }
 {
-    let x = entries::split(words[e]);
-    let bend = bend_from(bends[e]);
-    Line {
-        later: later[e],
-        earlier: x.point,
-        bend,
-        cut: x.cut,
-    }
+    line_of(entries::split(words[e]), later[e], bend_from(bends[e]))
 }
 
 // A line with its ends, bend and cut flag, and where its bend lies.

@@ -25,11 +25,11 @@ finished : (d : Drawing) → Whole d → ltb (d .k) (d .n) ≡ false
 finished d w = le-ltb (d .k) (d .n) (omega (arith, w .full))
 
 -- what drawing an accepted order file gives
-drawn-as : (o : List ℕ) (d : Drawing) → Whole d → readOrder o ≡ good d → drawFile o ≡ good (drawingBytes d)
+pub drawn-as : (o : List ℕ) (d : Drawing) → Whole d → readOrder o ≡ good d → drawFile o ≡ good (drawingBytes d)
 drawn-as o d w h = binds-to (readOrder o) writeDrawing d _ h (goes-to _ _ _ _ _ (finished d w) refl)
 
 -- what reading the drawing file of a whole drawing gives
-back-as : (d : Drawing) → Whole d → orderBack (drawingBytes d) ≡ good (writeOrder d)
+pub back-as : (d : Drawing) → Whole d → orderBack (drawingBytes d) ≡ good (writeOrder d)
 back-as d w = binds-to (readDrawing (drawingBytes d)) _ d _ (drawing-written d w) (goes-to _ _ _ _ _ (finished d w) refl)
 
 -- Reading the drawing that an accepted order file gives, gives exactly that order file back.

@@ -8,5 +8,6 @@ pub mod OrderWrite
 pub mod OrderRead
 pub mod OrderBytes
 pub mod Groups
+pub mod WholeRead
 pub mod DrawingRead
 pub mod Demand2

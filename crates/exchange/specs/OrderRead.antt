@@ -117,12 +117,12 @@ no-points [] h = refl
 no-points (e ∷ es) h = absurd (let z : _≡_ {A = ℕ} 0 1 = cc in omega arith)
 
 -- a record of point 1, 2 or 3 has the points that it must have, and what follows its test gave e
-record StartRead (wanted : List ℕ) (f : Found) {B : Type 0} (after : Result B) (e : B) : Type 0 where
-  points : pointsOf (entriesIn f) ≡ wanted
-  last : after ≡ good e
+pub record StartRead (wanted : List ℕ) (f : Found) {B : Type 0} (after : Result B) (e : B) : Type 0 where
+  pub points : pointsOf (entriesIn f) ≡ wanted
+  pub last : after ≡ good e
 
 -- the test of the start passed
-start-read : {B : Type 0} (wanted : List ℕ) (f : Found) (after : Result B) (e : B) → (startTest wanted (entriesIn f) (f .place) >> after) ≡ good e → StartRead wanted f after e
+pub start-read : {B : Type 0} (wanted : List ℕ) (f : Found) (after : Result B) (e : B) → (startTest wanted (entriesIn f) (f .place) >> after) ≡ good e → StartRead wanted f after e
 start-read wanted f after e h =
     let t = tested (not (same (pointsOf (entriesIn f)) wanted)) OtherStart (f .place) after e h in
     record { points = same-is (pointsOf (entriesIn f)) wanted (not-false _ (t .passed)); last = t .last }
@@ -171,7 +171,7 @@ points-read n s at e b h1 =
 -- ---- the header and the scale
 
 -- a number within bounds
-between-is : (a b v : ℕ) → between a b v ≡ true → (a ≤ v) × (v ≤ b)
+pub between-is : (a b v : ℕ) → between a b v ≡ true → (a ≤ v) × (v ≤ b)
 between-is a b v h = let t = and-true (leb a v) (leb v b) h in (leb-true a v (t .0), leb-true v b (t .1))
 
 -- the scale at the cursor is written so

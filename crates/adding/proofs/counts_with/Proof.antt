@@ -1,8 +1,17 @@
 -- `adding::counts_with`: the fields are the definition's.
-use native.Mathlib.Numerals.{add-one}
+use Prim.Native.Nat.{ℕ, suc, _+_, _-_}
+use mathlib.Core.Path.{_≡_}
+use native.Mathlib.Omega.{arith}
 use borrow.Author.Needs.{needs}
+use Rattle.links.specs.declared.Counts.{Counts}
+use Rattle.links.specs.Storing.{withCounts}
 use Rattle.adding.proofs.counts_with.Statement.{statement}
 use Rattle.adding.proofs.counts_with.Tie as tie
+
+-- the numbers, one by one
+counted : (c : Counts) (entries k m lines : ℕ) → k ≡ suc (c .k) → m ≡ c .m + 3 - entries → lines ≡ c .lines + entries →
+    record { n = c .n; s = c .s; k = k; m = m; lines = lines } ≡ withCounts c entries
+counted c entries k m lines p q r = rw (p, q, r)
 
 add-t3 : tie.Need-add-t3
 add-t3 c = search needs
@@ -17,7 +26,9 @@ add-t6 : tie.Need-add-t6
 add-t6 c = search needs
 
 returns : tie.Need-returns
-returns c = rw add-one
+returns c =
+    let a = c .before .before .before .args in
+    counted (a .c) (a .entries) _ _ _ (omega arith) (omega arith) (omega arith)
 
 pub counts-with-spec : {M : Type 1} → statement M
 counts-with-spec = tie.close (tie.spec add-t3 add-t4 sub-t5 add-t6 returns)

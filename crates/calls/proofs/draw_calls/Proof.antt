@@ -13,7 +13,7 @@ same-length : tie.Need-same-length
 same-length c = search needs
 
 returns : tie.Need-returns
-returns c = search needs
+returns c = c .before .before .draw-in .ensures
 
 pub draw-calls-spec : {M : Type 1} → statement M
 draw-calls-spec = tie.close (tie.spec draw-in-requires same-length returns)

@@ -5,7 +5,7 @@ use Rattle.calls.proofs.draw_in.Statement.{statement}
 use Rattle.calls.proofs.draw_in.Tie as tie
 
 open-in-requires : tie.Need-open-in-requires
-open-in-requires c κs = search needs
+open-in-requires c κs = let z = c .before .before .before .before .before .before .before .before .before .before .before .before in z .pre .0
 
 all-calls-requires : tie.Need-all-calls-requires
 all-calls-requires c κs =
@@ -17,7 +17,7 @@ same-length : tie.Need-same-length
 same-length c = search needs
 
 returns : tie.Need-returns
-returns c = search needs
+returns c = c .before .before .all-calls .ensures
 
 pub draw-in-spec : {M : Type 1} → statement M
 draw-in-spec = tie.close (tie.spec open-in-requires all-calls-requires same-length returns)

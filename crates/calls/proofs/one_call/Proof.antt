@@ -17,7 +17,9 @@ abbrev start : tie.After-add → tie.Start
 start d = d .before .before .before .before .before .before .before .before .before .before .before .before .before
 
 add-requires : tie.Need-add-requires
-add-requires c κs = search needs
+add-requires c κs =
+    let z = c .before .before .before .before .before .before .before .before .before .before .before .before in
+    record { d = z .pre .plan; holds = z .pre .holds }
 
 put-answer-requires : tie.Need-put-answer-requires
 put-answer-requires c κs =

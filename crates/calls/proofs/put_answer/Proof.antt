@@ -1,5 +1,6 @@
 -- `calls::put_answer` meets its contract, answer by answer.
 use borrow.Author.Needs.{needs}
+use Rattle.calls.proofs.Telling.{refusal-told}
 use Rattle.calls.proofs.put_answer.Statement.{statement}
 use Rattle.calls.proofs.put_answer.Tie as tie
 
@@ -37,7 +38,9 @@ returns-2 c =
     let t = c .before .before in
     let p = t .before .before in
     let n = p .before in
-    rw (n .before .before .a .given .1, ← n .refusal-number .ensures, ← p .narrow .ensures) (t .put-two2 .ensures)
+    let d = n .before .before in
+    let z = d .before .before .before in
+    refusal-told (z .args .out .now) (z .args .at) (n .refusal-number .result) (p .narrow .result) (d .a .given .1) (n .refusal-number .ensures) (p .narrow .ensures) (t .put-two2 .ensures)
 
 pub put-answer-spec : {M : Type 1} → statement M
 put-answer-spec =

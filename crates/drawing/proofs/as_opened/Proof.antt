@@ -1,53 +1,40 @@
+-- `as_opened` meets its contract: the arrays, as they are written, are those of the drawing as opened.
 use Rattle.links.specs.Opening.{openArrays}
 use Rattle.drawing.specs.Opens.{openDrawing}
 use borrow.Author.Needs.{needs}
 use Rattle.drawing.proofs.as_opened.Statement.{statement}
 use Rattle.drawing.proofs.as_opened.Tie as tie
-use Rattle.drawing.proofs.as_opened.Reads as reads
-use Rattle.drawing.proofs.as_opened.Lts as lts
-use Rattle.drawing.proofs.three_lines.Reads as three-lines-reads
 
--- src/lib.rt:93:5
 array-write-next : tie.Need-array-write-next
 array-write-next c = search needs
 
--- src/lib.rt:94:5
 array-write-next-2 : tie.Need-array-write-next-2
 array-write-next-2 c = search needs
 
--- src/lib.rt:96:5
 array-write-gap : tie.Need-array-write-gap
 array-write-gap c = search needs
 
--- src/lib.rt:97:5
 array-write-gap-2 : tie.Need-array-write-gap-2
 array-write-gap-2 c = search needs
 
--- src/lib.rt:99:5
 array-write-ys : tie.Need-array-write-ys
 array-write-ys c = search needs
 
--- src/lib.rt:101:5
 array-write-dls : tie.Need-array-write-dls
 array-write-dls c = search needs
 
--- src/lib.rt:103:5
 array-write-drs : tie.Need-array-write-drs
 array-write-drs c = search needs
 
--- src/lib.rt:104:9
 three-lines-requires : tie.Need-three-lines-requires
 three-lines-requires c κs = search needs
 
--- src/lib.rt:105:9
 three-lines-requires-2 : tie.Need-three-lines-requires-2
 three-lines-requires-2 c κs = search needs
 
--- src/lib.rt:106:9
 three-lines-requires-3 : tie.Need-three-lines-requires-3
 three-lines-requires-3 c κs = search needs
 
--- src/lib.rt:88:1
 returns : tie.Need-returns
 unfolding openDrawing openArrays
 returns c = rw (c .before .before .three-lines .ensures, c .before .three-lines2 .ensures, c .three-lines3 .ensures)

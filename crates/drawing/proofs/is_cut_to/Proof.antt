@@ -1,5 +1,5 @@
 -- `is_cut_to` meets its contract.
-use mathlib.Core.Path.{_≡_, sym, ap, _∙_}
+use mathlib.Core.Path.{sym, ap, _∙_}
 use Rattle.rules.specs.declared.Entry.{Entry}
 use Rattle.rules.specs.Entries.{entryOf}
 use Rattle.drawing.specs.Cuts.{cut-later, cut-earlier, cut-guide}

@@ -13,6 +13,12 @@ element-copy-out-split c = search needs
 split-requires : tie.Need-split-requires
 split-requires c κs = search needs
 
+mul-line-of : tie.Need-mul-line-of
+mul-line-of c = search needs
+
+element-copy-out-line-of : tie.Need-element-copy-out-line-of
+element-copy-out-line-of c = search needs
+
 mul-bend-from : tie.Need-mul-bend-from
 mul-bend-from c = search needs
 
@@ -22,15 +28,14 @@ element-copy-out-bend-from c = search needs
 bend-from-requires : tie.Need-bend-from-requires
 bend-from-requires c κs = search needs
 
-mul-t7 : tie.Need-mul-t7
-mul-t7 c = search needs
-
-element-copy-out-t10 : tie.Need-element-copy-out-t10
-element-copy-out-t10 c = search needs
+line-of-requires : tie.Need-line-of-requires
+line-of-requires c κs = search needs
 
 returns : tie.Need-returns
 unfolding lineIn
-returns c = rw (c .before .before .before .split .ensures, c .before .bend-from .ensures)
+returns c =
+    let b = c .before in
+    rw (c .line-of .ensures, b .bend-from .ensures, b .before .before .before .split .ensures)
 
 pub line-in-spec : {M : Type 1} → statement M
 line-in-spec =
@@ -39,9 +44,10 @@ line-in-spec =
     mul-split
     element-copy-out-split
     split-requires
+    mul-line-of
+    element-copy-out-line-of
     mul-bend-from
     element-copy-out-bend-from
     bend-from-requires
-    mul-t7
-    element-copy-out-t10
+    line-of-requires
     returns)

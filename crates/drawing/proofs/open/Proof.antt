@@ -1,5 +1,6 @@
 -- `open` meets its contract: the two ways to be refused, and the drawing as opened.
 use mathlib.Core.Logic.{⊎-elim}
+use native.Mathlib.Omega.{arith}
 use borrow.Author.Needs.{needs}
 use borrow.Author.Tests.{ltb-true, ltb-false}
 use Rattle.drawing.specs.Opens.{refuses-few, refuses-many, opens}
@@ -12,7 +13,7 @@ no-drawing-requires c κs = search needs
 returns : tie.Need-returns
 returns c =
     let n = c .before .before .args .n in
-    ⊎-elim (λ w. refuses-few n (c .no-drawing .ensures) (w .taken)) (λ w. refuses-many n (c .no-drawing .ensures) (w .0 .left) (ltb-true 1024 n (w .1 .taken)))
+    ⊎-elim (λ w. refuses-few n (c .no-drawing .ensures) (w .taken)) (λ w. refuses-many n (c .no-drawing .ensures) (w .0 .left) (omega (arith, ltb-true)))
     (c .before .if1 .came)
 
 as-opened-requires : tie.Need-as-opened-requires
@@ -21,7 +22,7 @@ as-opened-requires c κs = search needs
 returns-2 : tie.Need-returns-2
 returns-2 c =
     let n = c .before .before .before .args .n in
-    opens n (c .before .before .if1 .left) (ltb-false 1024 n (c .before .if2 .left)) (c .as-opened .ensures)
+    opens n (c .before .before .if1 .left) (omega (arith, ltb-false)) (c .as-opened .ensures)
 
 pub open-spec : {M : Type 1} → statement M
 open-spec = tie.close (tie.spec no-drawing-requires returns as-opened-requires returns-2)

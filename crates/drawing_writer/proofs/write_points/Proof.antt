@@ -117,4 +117,3 @@ write-points-spec =
     loop-again
     same-length
     returns)
--- x

@@ -1,5 +1,4 @@
 -- `order_writer::joined` meets its contract: what `split` gives has a point below 32768, and `join` puts it together.
-use Prim.Native.Nat.{_%_, _<_}
 use mathlib.Core.Path.{_∙_, ap}
 use native.Mathlib.Omega.{arith}
 use borrow.Author.Needs.{needs}
@@ -11,7 +10,7 @@ split-requires : tie.Need-split-requires
 split-requires c κs = search needs
 
 join-requires : tie.Need-join-requires
-join-requires c κs = let low : c .before .args .w % 32768 < 32768 = omega arith in rw (c .split .ensures) low
+join-requires c κs = rw (c .split .ensures) (omega arith)
 
 returns : tie.Need-returns
 returns c = c .join .ensures ∙ ap wordOf (c .before .split .ensures)

@@ -1,0 +1,41 @@
+-- `place_of` meets its contract: a placed point is seen at its place.
+use mathlib.Core.Path.{_≡_, ap, _∙_}
+use Rattle.rules.specs.Points.{Drawing as Plan}
+use Rattle.rules.specs.Lookups.{lookPoint}
+use Rattle.drawing.specs.View.{Is, pointSeen}
+use Rattle.cutter.specs.Grid.{place-seen, place-sure}
+use borrow.Author.Needs.{needs}
+use Rattle.cutter.proofs.place_of.Statement.{statement}
+use Rattle.cutter.proofs.place_of.Tie as tie
+
+broad-requires : tie.Need-broad-requires
+broad-requires c κs = search needs
+
+point-requires : tie.Need-point-requires
+point-requires c κs = search needs
+
+enum-known-a : tie.Need-enum-known-a
+enum-known-a c = search needs
+
+enum-told : tie.Need-enum-told
+enum-told c = search needs
+
+-- what the look-up says
+seen : (c : tie.After-point) (q : Plan) → Is q (c .before .before .args .d) → c .point .result ≡ pointSeen (lookPoint q (c .before .before .args .p))
+seen c q h = c .point .ensures q h ∙ ap (λ v. pointSeen (lookPoint q v)) (c .before .broad .ensures)
+
+returns : tie.Need-returns
+returns c =
+    let b = c .before .before in
+    let o = b .before .before in
+    λ q h. absurd (place-sure h (o .args .p) (o .pre .1) (o .pre .2) (b .point .result) (seen b q h) _ _ (c .enum-told .given .1))
+
+returns-2 : tie.Need-returns-2
+returns-2 c =
+    let b = c .before .before .before in
+    let o = b .before .before in
+    λ q h. place-seen h (o .args .p) (o .pre .1) (o .pre .2) (b .point .result) (seen b q h) _ (c .before .a .given .1)
+
+pub place-of-spec : {M : Type 1} → statement M
+place-of-spec =
+    tie.close (tie.spec broad-requires point-requires enum-known-a enum-told returns returns-2)

@@ -1,0 +1,5 @@
+pub mod Numbering
+pub mod Whole
+pub mod Cuts
+pub mod Grid
+pub mod Seen

@@ -1,0 +1,134 @@
+// The cutter moves of a drawing, given one at a time by number, and how many there are.
+use drawing::Drawing;
+use drawing::LineSeen;
+use drawing::PointSeen;
+use rules::Place;
+use rules::Refusal;
+use tool::Checked;
+use tool::Move;
+use tool::Numbers;
+use tool::Tool;
+ghost use mathlib.Core.Path.{_≡_};
+ghost use Prim.Native.Nat.{_<_, _≤_};
+ghost use lib.ListN.{length, getD};
+ghost use Rattle.rules.specs.Entries.{entryOf};
+ghost use Rattle.rules.specs.Points.{Drawing as Plan, placeOf, lineAt};
+ghost use Rattle.rules.specs.Moves.{Tool as WholeTool, lift, moveAt};
+ghost use Rattle.tool.specs.Checking.{wholeTool, toolOf, InRange};
+ghost use Rattle.drawing.specs.View.{Is, Came};
+ghost use Rattle.cutter.specs.Numbering.{fiveOf};
+ghost use Rattle.cutter.specs.Cuts.{NthCut, cutsTo};
+ghost use Rattle.cutter.specs.Seen.{IsMove, MoveSeen, moveCount, countSeen};
+
+// What asking for a move answers.
+pub enum Moved {
+    Made(Move),
+    Refused(Refusal, usize),
+}
+
+// What asking for the number of moves answers.
+pub enum Counted {
+    Moves(usize),
+    Refused(Refusal, usize),
+}
+
+// A line with this entry is cut.
+fn is_cut(word: u16) -> bool
+    ensures { λ r. ⌜ r ≡ entryOf word .cut ⌝ }
+{
+    let x = entries::split(word);
+    x.cut
+}
+
+// The number of the j-th cut line, from 0, or the number of lines where there is none.
+fn nth_cut(words: &[u16; 3072], lines: usize, j: usize) -> usize
+    requires { ⌜ (length (now words) ≡ 3072) × (lines ≤ 3072) ⌝ }
+    ensures { λ r. ⌜ NthCut (now (words .entry)) lines j r ⌝ }
+{
+    let mut seen = 0;
+    let mut e = 0;
+    while e < lines {
+        if is_cut(words[e]) {
+            if seen == j {
+                return e;
+            }
+            seen += 1;
+        }
+        e += 1;
+    }
+    e
+}
+
+// How many of the lines are cut.
+fn cut_count(words: &[u16; 3072], lines: usize) -> usize
+    requires { ⌜ (length (now words) ≡ 3072) × (lines ≤ 3072) ⌝ }
+    ensures { λ r. ⌜ (r ≡ cutsTo (now (words .entry)) lines) × (r ≤ lines) ⌝ }
+{
+    let mut count = 0;
+    let mut i = 0;
+    while i < lines {
+        if is_cut(words[i]) {
+            count += 1;
+        }
+        i += 1;
+    }
+    count
+}
+
+// The place of a placed point.
+fn place_of(d: Drawing, p: u16) -> Place
+    requires { ⌜ Came d × (1 ≤ p) × (p ≤ d .counts .k) ⌝ }
+    ensures { λ r. ⌜ ((q : Plan) → Is q d → r ≡ placeOf q p) ⌝ }
+{
+    let PointSeen::At(a) = drawing::point(d, words::broad(p)) else {
+        return Place { x: 0, y: 0 };
+    };
+    a
+}
+
+// Move `which`, from 0, of the five of line e.
+fn move_of(d: Drawing, e: usize, which: usize, t: Numbers) -> Move
+    requires { ⌜ Came d × (e < d .counts .lines) × (which < 5) × InRange t ⌝ }
+    ensures { λ r. ⌜ ((q : Plan) → Is q d → IsMove r (getD (fiveOf q (toolOf t) (lineAt q e)) which (lift 0))) ⌝ }
+{
+    let LineSeen::Seen(l, bend) = drawing::line(d, e) else {
+        return Move::Lift(0.0);
+    };
+    let later = place_of(d, l.later);
+    let earlier = place_of(d, l.earlier);
+    let c = d.counts;
+    tool::line_move(which, c.s, later, bend, earlier, t)
+}
+
+// Move `number`, from 0, of the drawing's moves with this tool. Refusals in order: 12, 22, 23.
+pub fn move_at(d: Drawing, t: Tool, number: usize) -> Moved
+    requires { ⌜ Came d ⌝ }
+    ensures { λ r. ⌜ ((q : Plan) → Is q d → MoveSeen r (moveAt q (wholeTool t) number)) ⌝ }
+{
+    let Checked::Good(numbers) = tool::check_tool(t) else {
+        return Moved::Refused(Refusal::BadTool, 0);
+    };
+    let c = d.counts;
+    if c.k < c.n {
+        return Moved::Refused(Refusal::Unfinished, 0);
+    }
+    let words = d.words;
+    let e = nth_cut(&words, c.lines, number / 5);
+    if c.lines <= e {
+        return Moved::Refused(Refusal::NoSuch, 0);
+    }
+    Moved::Made(move_of(d, e, number % 5, numbers))
+}
+
+// How many moves a finished drawing has, whatever the tool: five for each cut line.
+pub fn move_count(d: Drawing) -> Counted
+    requires { ⌜ Came d ⌝ }
+    ensures { λ r. ⌜ ((q : Plan) (t : WholeTool) → Is q d → r ≡ countSeen (moveCount q t)) ⌝ }
+{
+    let c = d.counts;
+    if c.k < c.n {
+        return Counted::Refused(Refusal::Unfinished, 0);
+    }
+    let words = d.words;
+    Counted::Moves(5 * cut_count(&words, c.lines))
+}

@@ -1,0 +1,69 @@
+-- A file that passes: the arrays as opened hold the drawing that it begins, and the groups of points 4 to n give the rest.
+use Prim.Native.Nat.{ℕ, _+_, _-_, _*_, _≤_}
+use mathlib.Core.Path.{_≡_, ap, sym, _∙_}
+use mathlib.Core.List.{List}
+use native.Mathlib.Omega.{arith}
+use lib.ListN.{length}
+use Rattle.rules.specs.declared.Refusal.{Refusal}
+use Rattle.rules.specs.declared.Answer.{Answer}
+use Rattle.rules.specs.declared.Answer.the-variants.{Refused}
+use Rattle.rules.specs.Refusals.{Result, good, refused, _>>_, answer}
+use Rattle.rules.specs.Entries.{entryOf}
+use Rattle.rules.specs.Points.{Drawing}
+use Rattle.rules.specs.DrawingFile.{entryIn, judgeRest}
+use Rattle.links.specs.declared.Added.{Added}
+use Rattle.links.specs.declared.Counts.{Counts}
+use Rattle.links.specs.Arrays.{Arrays}
+use Rattle.links.specs.Opening.{openArrays, openCounts}
+use Rattle.promise.specs.Bounds.{standing-start}
+use Rattle.stored.specs.Adding.{Holds}
+use Rattle.stored.specs.Opened.{sized-open, stores-open}
+use Rattle.drawing_reader.specs.Judged.{judgeDrawing}
+use Rattle.drawing_reader.specs.Files.{nIn, sIn, linesFrom, lineCount, linesEnd, linesAt}
+use Rattle.drawing_reader.specs.Groups.{lineAt}
+use Rattle.drawing_reader.specs.Entered.{numberFor}
+use Rattle.drawing_reader.specs.Whole.{fileTests, judged-so, firstLine, secondLine, thirdLine, begunIn, Passes, number-back}
+use Rattle.drawing_reader.specs.Contracted.{restGroups, AllGrouped, LinesRead}
+use Rattle.drawing_reader.proofs.Stages.{stops}
+
+-- a refusal before the groups
+pub refused-early : {f : List ℕ} {a : Arrays} {c : Counts} (said : Answer) → said ≡ answer (fileTests f) → (r : Refusal) (p : ℕ) → said ≡ Refused r p → LinesRead f a (record { answer = said; counts = c })
+refused-early {f} said h r p q =
+    let t = sym h ∙ q in
+    record {
+      answers = h ∙ stops (fileTests f) _ r p t ∙ sym (ap answer (judged-so f));
+      holds = λ d z. absurd (never (fileTests f) _ d t (sym (judged-so f) ∙ z));
+    }
+  where
+    never : (x : Result (Unit {0})) (y : Result Drawing) (d : Drawing) → answer x ≡ Refused r p → (x >> y) ≡ good d → ⊥
+    never (good u) y d e z = let o : _≡_ {A = ℕ} 0 1 = cc in omega arith
+    never (refused v i) y d e z = let o : _≡_ {A = ℕ} 0 1 = cc in omega arith
+
+-- where its lines lie
+pub lines-lie : {f : List ℕ} → Passes f → (n : ℕ) → n ≡ nIn f → (10 + 6 * n + 12 * (3 * n - 6) ≤ length f) × (3 ≤ n) × (n ≤ 1024)
+lines-lie t n is = (omega (arith, t .there, t .low), omega (arith, t .low), omega (arith, t .high))
+
+module _ {f : List ℕ} (t : Passes f) (n s : ℕ) (isN : n ≡ nIn f) (isS : s ≡ sIn f) where
+  -- the arrays as opened
+  pub opened-holds : (x y z : ℕ) (a : Arrays) → x ≡ numberFor (entryIn (lineAt f (10 + 6 * n))) → y ≡ numberFor (entryIn (lineAt f (10 + 6 * n + 12))) → z ≡ numberFor (entryIn (lineAt f (10 + 6 * n + 24))) →
+      a ≡ openArrays x y z → Holds (begunIn f) a (openCounts n s)
+  opened-holds x y z a hx hy hz ha =
+      let ex : entryOf x ≡ record { point = 1; cut = entryIn (firstLine f) .cut } =
+      ap entryOf (hx ∙ ap (λ (m : ℕ). numberFor (entryIn (lineAt f (10 + 6 * m)))) isN) ∙ number-back (firstLine f) 1 (t .first) (omega arith)
+      in
+      let ey : entryOf y ≡ record { point = 1; cut = entryIn (secondLine f) .cut } =
+      ap entryOf (hy ∙ ap (λ (m : ℕ). numberFor (entryIn (lineAt f (10 + 6 * m + 12)))) isN) ∙ number-back (secondLine f) 1 (t .second) (omega arith)
+      in
+      let ez : entryOf z ≡ record { point = 2; cut = entryIn (thirdLine f) .cut } =
+      ap entryOf (hz ∙ ap (λ (m : ℕ). numberFor (entryIn (lineAt f (10 + 6 * m + 24)))) isN) ∙ number-back (thirdLine f) 2 (t .third) (omega arith)
+      in
+      rw (ha, isN, isS)
+      (record { standing = standing-start (nIn f) (sIn f) _ _ _ (t .low) (t .high); sized = sized-open (nIn f) (sIn f) (entryIn (firstLine f) .cut) (entryIn (secondLine f) .cut) (entryIn (thirdLine f) .cut) x y z; stores = stores-open (nIn f) (sIn f) _ _ _ x y z ex ey ez })
+
+  -- what is left to judge
+  left-over : restGroups f (10 + 6 * n) (3 * n - 6) (openCounts n s) (begunIn f) ≡ judgeDrawing f
+  left-over = ap (λ (m : ℕ). judgeRest (m - 3) (linesEnd m) (begunIn f) (linesAt f (lineCount m - 3) (linesFrom m + 36))) isN ∙ sym (t .left)
+
+  -- the whole file
+  pub all-read : {a a′ : Arrays} {r : Added} → Holds (begunIn f) a (openCounts n s) → AllGrouped f (10 + 6 * n) (3 * n - 6) a (openCounts n s) a′ r → LinesRead f a′ r
+  all-read h g = record { answers = g .answers (begunIn f) h ∙ ap answer left-over; holds = λ d q. g .holds (begunIn f) d h (left-over ∙ q) }

@@ -1,0 +1,108 @@
+-- `drawing_reader::read_passed` meets its contract: the arrays as opened hold the drawing that the file begins, and the groups are added to it.
+use mathlib.Core.Path.{_≡_, _∙_}
+use native.Mathlib.Omega.{arith}
+use borrow.Author.Needs.{needs}
+use Rattle.links.specs.Arrays.{arraysOf}
+use Rattle.links.specs.Opening.{openCounts}
+use Rattle.stored.specs.Adding.{Holds}
+use Rattle.drawing_reader.specs.Files.{nIn, sIn}
+use Rattle.drawing_reader.specs.Whole.{begunIn}
+use Rattle.drawing_reader.proofs.Reading.{opened-holds, lines-lie, all-read}
+use Rattle.drawing_reader.proofs.read_passed.Statement.{statement}
+use Rattle.drawing_reader.proofs.read_passed.Tie as tie
+
+-- n and s
+n-is : (d : tie.After-broad) → d .broad .result ≡ nIn (d .before .before .before .before .args .f .now)
+n-is d = d .broad .ensures ∙ d .before .word-at .ensures
+
+s-is : (d : tie.After-broad2) → d .broad2 .result ≡ sIn (d .before .before .before .before .before .before .args .f .now)
+s-is d = d .broad2 .ensures ∙ d .before .word-at2 .ensures
+
+-- the arrays as opened
+opened : (o : tie.After-open-in) →
+    let q = o .before .before .before .before .before .before .before .before .before .before .before .before .before .before in
+    Holds (begunIn (q .before .before .before .before .before .before .args .f .now)) (arraysOf (o .open-in .last .0) (o .open-in .last .1 .0) (o .open-in .last .1 .1 .0) (o .open-in .last .1 .1 .1 .0) (o .open-in .last .1 .1 .1 .1 .0) (o .open-in .last .1 .1 .1 .1 .1 .0) (o .open-in .last .1 .1 .1 .1 .1 .1 .0) (o .open-in .last .1 .1 .1 .1 .1 .1 .1 .0) (o .open-in .last .1 .1 .1 .1 .1 .1 .1 .1 .0) (o .open-in .last .1 .1 .1 .1 .1 .1 .1 .1 .1 .0)) (openCounts (q .before .before .broad .result) (q .broad2 .result))
+opened o =
+    let q = o .before .before .before .before .before .before .before .before .before .before .before .before .before .before in
+    opened-holds (q .before .before .before .before .before .before .pre .0) _ _ (n-is (q .before .before)) (s-is q) _ _ _ _ (o .before .before .before .before .before .before .before .before .before .before .before .before .before .entry-at .ensures) (o .before .before .before .before .before .before .before .before .before .before .before .before .entry-at2 .ensures) (o .before .before .before .before .before .before .before .before .before .before .before .entry-at3 .ensures) (o .open-in .ensures)
+
+word-at-requires : tie.Need-word-at-requires
+word-at-requires c κs = search needs
+
+broad-requires : tie.Need-broad-requires
+broad-requires c κs = search needs
+
+word-at-requires-2 : tie.Need-word-at-requires-2
+word-at-requires-2 c κs = search needs
+
+broad-requires-2 : tie.Need-broad-requires-2
+broad-requires-2 c κs = search needs
+
+mul-base : tie.Need-mul-base
+mul-base c = search needs
+
+add-base : tie.Need-add-base
+add-base c = search needs
+
+entry-at-requires : tie.Need-entry-at-requires
+entry-at-requires c κs = search needs
+
+add-entry-at : tie.Need-add-entry-at
+add-entry-at c = search needs
+
+entry-at-requires-2 : tie.Need-entry-at-requires-2
+entry-at-requires-2 c κs = search needs
+
+add-entry-at-2 : tie.Need-add-entry-at-2
+add-entry-at-2 c = search needs
+
+entry-at-requires-3 : tie.Need-entry-at-requires-3
+entry-at-requires-3 c κs = search needs
+
+open-in-requires : tie.Need-open-in-requires
+open-in-requires c κs = search needs
+
+mul-add-groups : tie.Need-mul-add-groups
+mul-add-groups c = search needs
+
+sub-add-groups : tie.Need-sub-add-groups
+sub-add-groups c = search needs
+
+add-groups-requires : tie.Need-add-groups-requires
+add-groups-requires c κs =
+    let o = c .before .before .before .before .before .before .before .before .before .before .before in
+    let z = o .before .before .before .before .before .before .before .before .before .before .before .before .before .before .before .before .before .before .before .before in
+    let l = lines-lie (z .pre .0) _ (n-is (o .before .before .before .before .before .before .before .before .before .before .before .before .before .before .before .before)) in
+    record { there = l .0; few = omega (arith, l .1); room = omega (arith, l .2, z .pre .1 .room); ready = record { d = _; holds = opened o } }
+
+same-length : tie.Need-same-length
+same-length c = search needs
+
+returns : tie.Need-returns
+returns c =
+    let g = c .before .before in
+    let o = g .before .before .before .before .before .before .before .before .before .before .before .before in
+    let q = o .before .before .before .before .before .before .before .before .before .before .before .before .before .before in
+    all-read (q .before .before .before .before .before .before .pre .0) _ _ (n-is (q .before .before)) (s-is q) (opened o) (g .add-groups .ensures)
+
+pub read-passed-spec : {M : Type 1} → statement M
+read-passed-spec =
+    tie.close
+    (tie.spec
+    word-at-requires
+    broad-requires
+    word-at-requires-2
+    broad-requires-2
+    mul-base
+    add-base
+    entry-at-requires
+    add-entry-at
+    entry-at-requires-2
+    add-entry-at-2
+    entry-at-requires-3
+    open-in-requires
+    mul-add-groups
+    sub-add-groups
+    add-groups-requires
+    same-length
+    returns)

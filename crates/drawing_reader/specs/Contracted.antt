@@ -1,0 +1,85 @@
+-- What the functions of this crate ask and leave.
+use Prim.Native.Nat.{ℕ, suc, _+_, _-_, _*_, _≤_}
+use mathlib.Core.Path.{_≡_}
+use mathlib.Core.List.{List, map}
+use lib.ListN.{length, take}
+use Rattle.rules.specs.declared.Answer.{Answer}
+use Rattle.rules.specs.declared.Answer.the-variants.{Accepted, Refused}
+use Rattle.rules.specs.Refusals.{Result, good, answer, placed}
+use Rattle.rules.specs.Points.{Drawing}
+use Rattle.rules.specs.Adding.{addEntries}
+use Rattle.rules.specs.Calls.{left}
+use Rattle.rules.specs.Records.{Found}
+use Rattle.rules.specs.DrawingFile.{group, behind, groupPlace, judgeRest}
+use Rattle.links.specs.declared.Added.{Added}
+use Rattle.links.specs.declared.Counts.{Counts}
+use Rattle.links.specs.Arrays.{Arrays}
+use Rattle.stored.specs.Adding.{Holds}
+use Rattle.adding.specs.Calls.{Ready}
+use Rattle.opening.specs.Zeros.{Zeros}
+use Rattle.drawing_reader.specs.Judged.{judgeDrawing}
+use Rattle.drawing_reader.specs.Files.{linesAt}
+use Rattle.drawing_reader.specs.Entered.{numberFor}
+
+-- the group of point p among the `left` lines from `at` on has c lines, whose entries begin the list e
+pub record Taken (f : List ℕ) (at left p : ℕ) (e : List ℕ) (c : ℕ) : Type 0 where
+  pub few : c ≤ left
+  pub entries : take c e ≡ map numberFor (group p (linesAt f left at))
+  pub rest : behind p (linesAt f left at) ≡ linesAt f (left - c) (at + 12 * c)
+
+-- an answer, with a refusal at this place
+abbrev pub answerAt : ℕ → Answer → Answer
+answerAt place Accepted = Accepted
+answerAt place (Refused r p) = Refused r place
+
+-- ---- the groups, one after another
+
+-- the lines from line i on, where `total` lines start at `base`
+abbrev pub linesBehind : List ℕ → ℕ → ℕ → ℕ → List Found
+linesBehind f base total i = linesAt f (total - i) (base + 12 * i)
+
+-- the group of the next point, judged at its place, where line i is next
+unfoldable pub nextGroup : List ℕ → ℕ → ℕ → ℕ → Drawing → Result Drawing
+nextGroup f base total i d =
+    placed (groupPlace (base + 12 * total) (linesBehind f base total i)) (addEntries d (group (suc (d .k)) (linesBehind f base total i)))
+
+-- the groups of all points that are left
+abbrev pub restGroups : List ℕ → ℕ → ℕ → Counts → Drawing → Result Drawing
+restGroups f base total c d = judgeRest (c .n - c .k) (base + 12 * total) d (linesBehind f base total (c .lines))
+
+-- the lines are there, the next one is c's, the arrays hold a drawing, and e has room
+pub record Groups (f : List ℕ) (base total : ℕ) (a : Arrays) (c : Counts) (e : List ℕ) : Type 0 where
+  pub there : base + 12 * total ≤ length f
+  pub few : c .lines ≤ total
+  pub room : total ≤ length e
+  pub ready : Ready a c
+
+-- after an accepted group: one point more, and the lines behind the group are next
+pub record GroupBehind (f : List ℕ) (base total : ℕ) (c : Counts) (d : Drawing) (c′ : Counts) : Type 0 where
+  pub n : c′ .n ≡ c .n
+  pub k : c′ .k ≡ suc (c .k)
+  pub few : c′ .lines ≤ total
+  pub rest : behind (suc (d .k)) (linesBehind f base total (c .lines)) ≡ linesBehind f base total (c′ .lines)
+
+-- what adding the next group leaves, whatever drawing d the arrays held
+pub record Grouped (f : List ℕ) (base total : ℕ) (a : Arrays) (c : Counts) (a′ : Arrays) (r : Added) : Type 0 where
+  pub answers : (d : Drawing) → Holds d a c → r .answer ≡ answer (nextGroup f base total (c .lines) d)
+  pub holds : (d : Drawing) → Holds d a c → Holds (left d (nextGroup f base total (c .lines) d)) a′ (r .counts)
+  pub behind-it : (d : Drawing) → Holds d a c → r .answer ≡ Accepted → GroupBehind f base total c d (r .counts)
+
+-- what adding all groups leaves; what the arrays hold after a refusal is left open
+pub record AllGrouped (f : List ℕ) (base total : ℕ) (a : Arrays) (c : Counts) (a′ : Arrays) (r : Added) : Type 0 where
+  pub answers : (d : Drawing) → Holds d a c → r .answer ≡ answer (restGroups f base total c d)
+  pub holds : (d z : Drawing) → Holds d a c → restGroups f base total c d ≡ good z → Holds z a′ (r .counts)
+
+-- ---- the file
+
+-- arrays of zeros, and room for 3,072 entries
+pub record Fresh (a : Arrays) (e : List ℕ) : Type 0 where
+  pub zeros : Zeros a
+  pub room : length e ≡ 3072
+
+-- what reading a file leaves; what the arrays hold after a refusal is left open
+pub record LinesRead (f : List ℕ) (a′ : Arrays) (r : Added) : Type 0 where
+  pub answers : r .answer ≡ answer (judgeDrawing f)
+  pub holds : (d : Drawing) → judgeDrawing f ≡ good d → Holds d a′ (r .counts)

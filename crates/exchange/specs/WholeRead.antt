@@ -1,0 +1,90 @@
+-- The drawing of an accepted order file is whole, whatever numbers its list holds.
+use Prim.Native.Nat.{ℕ, zero, suc, _-_, _≤_}
+use mathlib.Core.Path.{_≡_, refl, ap, sym, subst, subst₂}
+use mathlib.Core.Bool.{Bool, true, false, not}
+use mathlib.Core.List.{List, [], _∷_, _++_, append-assoc, append-nil}
+use native.Mathlib.Omega.{arith}
+use lib.ListN.{length}
+use borrow.Author.Tests.{not-false}
+use Rattle.rules.specs.declared.Entry.{Entry}
+use Rattle.rules.specs.declared.Refusal.the-variants.{OutOfRange}
+use Rattle.rules.specs.Basics.{if_then_else_, between, snoc}
+use Rattle.rules.specs.Refusals.{Result, good, placed, _>>=_}
+use Rattle.rules.specs.Points.{Drawing}
+use Rattle.rules.specs.Adding.{addEntries}
+use Rattle.rules.specs.Records.{Cursor, first, readRecord, readEnd, marked, fromStart, orderHead, scaleShape, pointEntries}
+use Rattle.rules.specs.OrderFile.{Scaled, givenScale, readScale, entriesIn, startWith, readRest, readPoints, readOrder}
+use Rattle.exchange.specs.Built.{Built, begun, added, Whole}
+use Rattle.exchange.specs.Results.{bound, followed, tested, same-value, placed-good}
+use Rattle.exchange.specs.Entries.{listed}
+use Rattle.exchange.specs.OrderRead.{start-read, between-is}
+use Rattle.exchange.specs.Groups.{BuiltSo}
+
+-- c records more, from a built drawing on
+rest-built : (n s : ℕ) (second third : List Entry) (c : ℕ) (ess : List (List Entry)) (d e : Drawing) (at : Cursor) → Built n s second third ess d → readRest c d at ≡ good e →
+    (more : List (List Entry)) × (length more ≡ c) × Built n s second third (ess ++ more) e
+unfolding readRest
+rest-built n s second third zero ess d e at t h =
+    let g = followed (readEnd at) (good d) e h in
+    ([], refl, subst₂ (Built n s second third) (sym (append-nil ess)) (same-value d e (g .last)) t)
+rest-built n s second third (suc c) ess d e at t h =
+    let f = bound (readRecord pointEntries at) (λ f. placed (f .place) (addEntries d (entriesIn f)) >>= λ e. readRest c e (f .next)) e h in
+    let es = entriesIn (f .value) in
+    let g = bound (placed (f .value .place) (addEntries d es)) (λ e. readRest c e (f .value .next)) e (f .last) in
+    let new = added es t (placed-good (f .value .place) (addEntries d es) (g .value) (g .first)) in
+    let r = rest-built n s second third c (snoc ess es) (g .value) e (f .value .next) new (g .last) in
+    (es ∷ r .0, ap suc (r .1), subst (λ (l : List (List Entry)). Built n s second third l e) (append-assoc ess (es ∷ []) (r .0)) (r .2))
+
+-- the records of all points
+points-built : (n s : ℕ) (at : Cursor) (e : Drawing) → readPoints n s at ≡ good e → BuiltSo n s e
+unfolding readPoints
+points-built n s at e h1 =
+    let f = bound (readRecord pointEntries at) _ e h1 in
+    let tf = start-read [] (f .value) _ e (f .last) in
+    let g = bound (readRecord pointEntries (f .value .next)) _ e (tf .last) in
+    let tg = start-read (1 ∷ []) (g .value) _ e (g .last) in
+    let h = bound (readRecord pointEntries (g .value .next)) _ e (tg .last) in
+    let second = entriesIn (g .value) in
+    let third = entriesIn (h .value) in
+    let th = start-read (1 ∷ 2 ∷ []) (h .value) (readRest (n - 3) (startWith n s second third) (h .value .next)) e (h .last) in
+    let r = rest-built n s second third (n - 3) [] (startWith n s second third) e (h .value .next) (begun (tg .points) (th .points)) (th .last) in
+    record { second = second; third = third; rest = r .0; built = r .2; many = r .1 }
+
+-- the scale lies from 1 to 8
+given-range : (at : Cursor) (c : Scaled) → givenScale at ≡ good c → (1 ≤ c .s) × (c .s ≤ 8)
+given-range at c h =
+    let f = bound (readRecord scaleShape at) _ c h in
+    let g = tested (not (between 2 8 (first (f .value)))) OutOfRange (f .value .place) (good (record { s = first (f .value); next = f .value .next })) c (f .last) in
+    let z = between-is 2 8 (first (f .value)) (not-false _ (g .passed)) in
+    subst (λ (c : Scaled). (1 ≤ c .s) × (c .s ≤ 8)) (same-value _ c (g .last)) (omega (arith, z .0), z .1)
+
+scale-range : (at : Cursor) (c : Scaled) → readScale at ≡ good c → (1 ≤ c .s) × (c .s ≤ 8)
+scale-range at c h = go (marked scaleShape at) h
+  where
+    go : (t : Bool) → (if t then givenScale at else good (record { s = 1; next = at })) ≡ good c → (1 ≤ c .s) × (c .s ≤ 8)
+    go true q = given-range at c q
+    go false q = subst (λ (c : Scaled). (1 ≤ c .s) × (c .s ≤ 8)) (same-value _ c q) (omega arith, omega arith)
+
+-- a drawing that was built for n points at scale s, with n - 3 calls, is whole
+pub whole-so : (n s : ℕ) (d : Drawing) → (3 ≤ n) × (n ≤ 1024) → (1 ≤ s) × (s ≤ 8) → BuiltSo n s d → Whole d
+whole-so n s d bn bs p =
+    let t = listed (p .built) in
+    record {
+      second = p .second;
+      third = p .third;
+      rest = p .rest;
+      built = subst₂ (λ (n s : ℕ). Built n s (p .second) (p .third) (p .rest) d) (sym (t .is-n)) (sym (t .is-s)) (p .built);
+      low = rw (t .is-n) (bn .0);
+      high = rw (t .is-n) (bn .1);
+      scale = rw (t .is-s) bs;
+      full = omega (arith, t .is-k, t .is-n, p .many, bn .0);
+    }
+
+pub whole-read : (o : List ℕ) (d : Drawing) → readOrder o ≡ good d → Whole d
+unfolding readOrder
+whole-read o d h =
+    let f = bound (readRecord orderHead (fromStart o)) _ d h in
+    let n = first (f .value) in
+    let g = tested (not (between 3 1024 n)) OutOfRange 0 _ d (f .last) in
+    let c = bound (readScale (f .value .next)) (λ c. readPoints n (c .s) (c .next)) d (g .last) in
+    whole-so n (c .value .s) d (between-is 3 1024 n (not-false _ (g .passed))) (scale-range (f .value .next) (c .value) (c .first)) (points-built n (c .value .s) (c .value .next) d (c .last))

@@ -1,0 +1,77 @@
+-- From the records of points 1 to 3 to the rest: the arrays as opened hold the drawing that these begin.
+use Prim.Native.Nat.{ℕ, _-_}
+use mathlib.Core.Path.{_≡_, sym, subst}
+use mathlib.Core.List.{List, [], _∷_}
+use lib.ListN.{length}
+use Rattle.rules.specs.declared.Refusal.{Refusal}
+use Rattle.rules.specs.declared.Answer.the-variants.{Refused}
+use Rattle.rules.specs.Refusals.{Result, refused}
+use Rattle.rules.specs.Entries.{entryOf}
+use Rattle.rules.specs.Points.{Drawing}
+use Rattle.rules.specs.OrderFile.{startWith, readPoints, readOrder}
+use Rattle.links.specs.declared.Added.{Added}
+use Rattle.links.specs.Arrays.{Arrays}
+use Rattle.links.specs.Judging.{pointIn}
+use Rattle.links.specs.Opening.{openArrays, openCounts}
+use Rattle.promise.specs.Bounds.{standing-start}
+use Rattle.stored.specs.Opened.{sized-open, stores-open}
+use Rattle.stored.specs.Adding.{Holds}
+use Rattle.order_reader.specs.declared.Start.{Start}
+use Rattle.order_reader.specs.declared.Start.the-variants as start
+use Rattle.order_reader.specs.declared.Head.{Head}
+use Rattle.order_reader.specs.declared.Head.the-variants as head
+use Rattle.order_reader.specs.Reading.{cursor, HeadRead}
+use Rattle.order_reader.specs.Starting.{pointsFrom, Begun, StartRead}
+use Rattle.order_reader.specs.Points.{Going, Gave, RestRead, Blank, Headed}
+use Rattle.order_reader.proofs.Turns.{gave-refused}
+
+-- an entry is its point and whether it is cut
+entry-is : (w p : ℕ) → pointIn w ≡ p → entryOf w ≡ record { point = p; cut = entryOf w .cut }
+entry-is w p h = λ i. record { point = h i; cut = entryOf w .cut }
+
+-- the drawing that their entries begin
+abbrev begin : ℕ → ℕ → ℕ → ℕ → ℕ → Drawing
+begin n s a b c = startWith n s (entryOf a ∷ []) (entryOf b ∷ entryOf c ∷ [])
+
+module _ {f : List ℕ} {at n : ℕ} {x₀ : Arrays} {e₀ : List ℕ} (z : Headed f at n x₀ e₀) (s : ℕ) where
+  -- points 1 to 3 are refused
+  pub start-refused : (o : Start) → StartRead f (pointsFrom (cursor f at)) o → (r : Refusal) (p : ℕ) → o ≡ start.Refused r p → (v : Added) → v .answer ≡ Refused r p → (x : Arrays) →
+      Gave (readPoints n s (cursor f at)) x v
+  start-refused o h r p q v w x = gave-refused _ x v r p (subst (StartRead f (pointsFrom (cursor f at))) q h n s) w
+
+  -- they are there
+  module _ (a b c next : ℕ) (o : Start) (h : StartRead f (pointsFrom (cursor f at)) o) (q : o ≡ start.Given a b c next) where
+    begun : Begun f (pointsFrom (cursor f at)) a b c next
+    begun = subst (StartRead f (pointsFrom (cursor f at))) q h
+
+    -- the arrays as opened
+    module _ (x : Arrays) (opened : x ≡ openArrays a b c) where
+      held : Holds (begin n s a b c) x (openCounts n s)
+      held =
+          rw opened
+          (record {
+            standing = standing-start n s (entryOf a .cut) (entryOf b .cut) (entryOf c .cut) (z .low) (z .high);
+            sized = sized-open n s (entryOf a .cut) (entryOf b .cut) (entryOf c .cut) a b c;
+            stores =
+                stores-open n s (entryOf a .cut) (entryOf b .cut) (entryOf c .cut) a b c (entry-is a 1 (begun .first)) (entry-is b 1 (begun .second)) (entry-is c 2 (begun .third));
+          })
+
+      -- the rest can be read, and gives all
+      pub start-going : (e : List ℕ) → length e ≡ 65536 → Going f next x (openCounts n s) e
+      start-going e l = record { ready = record { d = begin n s a b c; holds = held }; place = begun .room; room = l }
+
+      pub start-gave : (y : Arrays) (v : Added) → RestRead f next (n - 3) x (openCounts n s) y v → Gave (readPoints n s (cursor f at)) y v
+      start-gave y v g = subst (λ (o : Result Drawing). Gave o y v) (sym (begun .rest n s)) (g (begin n s a b c) held)
+
+-- ---- behind the header
+
+module _ (f : List ℕ) (o : Head) (h : HeadRead f o) where
+  pub head-refused : (r : Refusal) (p : ℕ) → o ≡ head.Refused r p → (v : Added) → v .answer ≡ Refused r p → (x : Arrays) → Gave (readOrder f) x v
+  head-refused r p q v w x = gave-refused _ x v r p (subst (HeadRead f) q h) w
+
+  module _ (n s at : ℕ) (q : o ≡ head.Given n s at) where
+    pub head-going : (x : Arrays) (e : List ℕ) → Blank x e → Headed f at n x e
+    head-going x e b = let t : HeadRead f (head.Given n s at) = subst (HeadRead f) q h in record { blank = b; place = t .2; low = t .0; high = t .1 }
+
+    pub head-gave : (x : Arrays) (v : Added) → Gave (readPoints n s (cursor f at)) x v → Gave (readOrder f) x v
+    head-gave x v g = let t : HeadRead f (head.Given n s at) = subst (HeadRead f) q h in subst (λ (o : Result Drawing). Gave o x v) (sym (t .3)) g

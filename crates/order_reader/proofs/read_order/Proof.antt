@@ -1,0 +1,77 @@
+-- `order_reader::read_order` meets its contract: the header, then the points.
+use Prim.Native.Nat.{ℕ}
+use mathlib.Core.List.{List}
+use Rattle.links.specs.Arrays.{Arrays, arraysOf}
+use Rattle.order_reader.proofs.Opens.{head-refused, head-going, head-gave}
+use borrow.Author.Needs.{needs}
+use Rattle.order_reader.proofs.read_order.Statement.{statement}
+use Rattle.order_reader.proofs.read_order.Tie as tie
+
+-- the function's start, and the file
+abbrev start : tie.After-read-head → tie.Start
+start y = y .before .before .before
+
+abbrev file : tie.After-read-head → List ℕ
+file y = start y .args .f .now
+
+-- the arrays before and after the points are read
+abbrev before : tie.After-read-head → Arrays
+before y =
+    let a = start y .args in
+    arraysOf (a .next .now) (a .gap .now) (a .owner .now) (a .ys .now) (a .dls .now) (a .drs .now) (a .hs .now) (a .words .now) (a .later .now) (a .bends .now)
+
+abbrev after : tie.After-read-points → Arrays
+after t =
+    let l = t .read-points .last .1 .1 .1 .1 in
+    arraysOf (l .0) (l .1 .0) (l .1 .1 .0) (l .1 .1 .1 .0) (l .1 .1 .1 .1 .0) (l .1 .1 .1 .1 .1 .0) (l .1 .1 .1 .1 .1 .1 .0) (l .1 .1 .1 .1 .1 .1 .1 .0) (l .1 .1 .1 .1 .1 .1 .1 .1 .0) (l .1 .1 .1 .1 .1 .1 .1 .1 .1 .0)
+
+-- from there back to the header
+abbrev header : tie.After-known-told2 → tie.After-read-head
+header d = d .before .before .before
+
+read-head-requires : tie.Need-read-head-requires
+read-head-requires c κs = search needs
+
+enum-known-r : tie.Need-enum-known-r
+enum-known-r c = search needs
+
+refuse-requires : tie.Need-refuse-requires
+refuse-requires c κs = search needs
+
+enum-known-n : tie.Need-enum-known-n
+enum-known-n c = search needs
+
+read-points-requires : tie.Need-read-points-requires
+read-points-requires c κs =
+    let d = c .before .before .before .before .before .before .before .before .before .before .before in
+    let y = header d in
+    head-going (file y) (y .read-head .result) (y .read-head .ensures) (d .before .n .given .0 .0) (d .before .n .given .0 .1 .0) (d .before .n .given .0 .1 .1 .0) (d .before .n .given .1) (before y) (start y .args .e .now) (start y .pre)
+
+returns : tie.Need-returns
+returns c =
+    let r = c .before .before in
+    let y = r .before .before in
+    head-refused (file y) (y .read-head .result) (y .read-head .ensures) _ _ (r .r .given .1) (c .refuse .result) (c .refuse .ensures) (before y)
+
+same-length : tie.Need-same-length
+same-length c = search needs
+
+returns-2 : tie.Need-returns-2
+returns-2 c =
+    let t = c .before .before in
+    let d = t .before .before .before .before .before .before .before .before .before .before .before .before in
+    let y = header d in
+    head-gave (file y) (y .read-head .result) (y .read-head .ensures) (d .before .n .given .0 .0) (d .before .n .given .0 .1 .0) (d .before .n .given .0 .1 .1 .0) (d .before .n .given .1) (after t) (t .read-points .result) (t .read-points .ensures)
+
+pub read-order-spec : {M : Type 1} → statement M
+read-order-spec =
+    tie.close
+    (tie.spec
+    read-head-requires
+    enum-known-r
+    refuse-requires
+    enum-known-n
+    read-points-requires
+    returns
+    same-length
+    returns-2)

@@ -1,0 +1,45 @@
+-- The arrays of a whole drawing meet what its writers ask, and what they write is its files.
+use Prim.Native.Nat.{ℕ, _*_, _-_, _≤_}
+use mathlib.Core.Path.{_≡_}
+use mathlib.Core.List.{List}
+use native.Mathlib.Omega.{arith}
+use lib.ListN.{length, take, drop}
+use lib.Seq.{take-append-seam}
+use borrow.Author.Tests.{le-ltb}
+use Rattle.rules.specs.Refusals.{good}
+use Rattle.rules.specs.Points.{Drawing as Plan}
+use Rattle.rules.specs.DrawingFile.{drawingBytes}
+use Rattle.links.specs.declared.Counts.{Counts}
+use Rattle.links.specs.Arrays.{Arrays}
+use Rattle.stored.specs.Adding.{Holds}
+use Rattle.settling.specs.Placed.{Settled, placed-at}
+use Rattle.drawing_writer.specs.Lists.{listsOf}
+use Rattle.drawing_writer.specs.Finished.{Finished, Writable, finished-of}
+use Rattle.exchange.specs.Built.{Whole}
+use Rattle.exchange.specs.DrawingRead.{length-drawing}
+use Rattle.order_writer.specs.Writing.{LinesStored, OrderWritable}
+use Rattle.panel.specs.declared.Written.{Written}
+use Rattle.panel.specs.Outputs.{Ended, Lined, Wrote}
+use Rattle.panel.specs.Wholes.{need-is}
+
+-- with its settled x a whole drawing is finished
+pub finish : {d : Plan} {a : Arrays} {c : Counts} {x : List ℕ} → Whole d → Holds d a c → Settled x (a .next) (a .gap) (a .owner) (c .k) →
+    Finished d (listsOf x (a .ys) (a .dls) (a .drs) (a .hs) (a .words) (a .later) (a .bends)) c
+finish {d} w h s = finished-of h (s .long) (s .right d (h .standing .sound) (placed-at (h .stores .k) (h .stores))) (w .scale) (w .full)
+
+-- so it can be written where there is room
+pub writable : {a : Arrays} {c : Counts} {x out : List ℕ} → Ended a c → Settled x (a .next) (a .gap) (a .owner) (c .k) → 42 * c .n - 60 ≤ length out →
+    Writable (listsOf x (a .ys) (a .dls) (a .drs) (a .hs) (a .words) (a .later) (a .bends)) c out
+writable e s room = record { d = e .d; finished = finish (e .whole) (e .holds) s; room = omega (arith, need-is (e .whole) (e .holds)) }
+
+-- the lines of a drawing that the arrays hold
+pub lines-of : {d : Plan} {a : Arrays} {c : Counts} → Holds d a c → LinesStored d (a .words) (a .later) c
+lines-of h = let t = h .stores in record { n = t .n; s = t .s; k = t .k; lines = t .lines; later = t .later; entry = t .entry }
+
+-- a buffer for the longest drawing file begins with the drawing that was written into it
+pub begins : {d : Plan} {a : Arrays} {c : Counts} {before after : List ℕ} {r : Written} → Whole d → Holds d a c → length before ≡ 42948 → Wrote before (good (drawingBytes d)) after r →
+    take (42 * c .n - 60) after ≡ drawingBytes d
+begins {d} {before = before} w h long t =
+    let n = need-is w h in
+    let room : length (drawingBytes d) ≤ length before = omega (arith, length-drawing d w, w .high, long) in
+    rw (n, t .bytes, le-ltb (length before) (length (drawingBytes d)) room, take-append-seam (drawingBytes d) (drop (length (drawingBytes d)) before))

@@ -1,0 +1,52 @@
+-- What a call that writes answers, and what its buffer holds afterwards.
+use mathlib.Core.Path.{_≡_, refl}
+use mathlib.Core.List.{List}
+use Prim.Native.Nat.{ℕ, _<_, _≤_}
+use lib.ListN.{length}
+use borrow.Author.Tests.{lt-ltb, le-ltb}
+use Rattle.rules.specs.declared.Refusal.{Refusal}
+use Rattle.rules.specs.declared.Refusal.the-variants.{OutputShort}
+use Rattle.rules.specs.Refusals.{Result, good, refused}
+use Rattle.rules.specs.Output.{fitted, filled}
+use Rattle.rules.specs.Points.{Drawing as Plan}
+use Rattle.links.specs.declared.Counts.{Counts}
+use Rattle.links.specs.Arrays.{Arrays}
+use Rattle.stored.specs.Adding.{Holds}
+use Rattle.exchange.specs.Built.{Whole}
+use Rattle.order_writer.specs.Writing.{LinesStored}
+use Rattle.panel.specs.declared.Written.{Written}
+use Rattle.panel.specs.declared.Written.the-variants.{Bytes, Refused}
+
+-- the number of bytes written, or number and place
+abbrev pub written : Result (List ℕ) → Written
+written (good bytes) = Bytes (length bytes)
+written (refused r p) = Refused r p
+
+-- `wanted` was to be written into a buffer: 24 where it is too short; a refusal changes no byte, and bytes past the written ones stay
+pub record Wrote (before : List ℕ) (wanted : Result (List ℕ)) (after : List ℕ) (r : Written) : Type 0 where
+  pub answer : r ≡ written (fitted before wanted)
+  pub bytes : after ≡ filled before (fitted before wanted)
+
+-- the arrays hold a whole drawing
+pub record Ended (a : Arrays) (c : Counts) : Type 0 where
+  pub d : Plan
+  pub whole : Whole d
+  pub holds : Holds d a c
+
+-- they store the lines of one
+pub record Lined (words later : List ℕ) (c : Counts) : Type 0 where
+  pub d : Plan
+  pub whole : Whole d
+  pub stored : LinesStored d words later c
+
+-- a buffer too short for the bytes
+pub short : (before bytes : List ℕ) → length before < length bytes → Wrote before (good bytes) before (Refused OutputShort 0)
+short before bytes h = let t = lt-ltb (length before) (length bytes) h in record { answer = rw t; bytes = rw t }
+
+-- bytes that were written
+pub full : (before bytes after : List ℕ) (n : ℕ) → length bytes ≤ length before → n ≡ length bytes → after ≡ filled before (good bytes) → Wrote before (good bytes) after (Bytes n)
+full before bytes after n h e b = let t = le-ltb (length before) (length bytes) h in record { answer = rw (t, e); bytes = rw t b }
+
+-- nothing was to be written
+pub turned : (before : List ℕ) (r : Refusal) (p : ℕ) → Wrote before (refused r p) before (Refused r p)
+turned before r p = record { answer = refl; bytes = refl }

@@ -1,0 +1,197 @@
+// Order files into drawing files and back, in buffers that the caller lends; and both files of a drawing that came from calls.
+use drawing::Drawing;
+use links::Counts;
+use rules::Answer;
+use rules::Refusal;
+ghost use mathlib.Core.Path.{_≡_};
+ghost use Prim.Native.Nat.{_≤_};
+ghost use lib.ListN.{length};
+ghost use Rattle.rules.specs.Refusals.{good, answer};
+ghost use Rattle.rules.specs.Points.{Drawing as Plan};
+ghost use Rattle.rules.specs.OrderFile.{writeOrder};
+ghost use Rattle.rules.specs.DrawingFile.{drawingBytes, drawFile, orderBack, compareBytes};
+ghost use Rattle.links.specs.Arrays.{arraysOf};
+ghost use Rattle.stored.specs.Adding.{Holds};
+ghost use Rattle.exchange.specs.Built.{Whole};
+ghost use Rattle.order_writer.specs.Writing.{LinesStored};
+ghost use Rattle.drawing.specs.View.{Came, Is};
+ghost use Rattle.panel.specs.Outputs.{Wrote, Ended, Lined};
+
+// What a call that writes answers: the number of bytes written, or a refusal with its place.
+pub enum Written {
+    Bytes(usize),
+    Refused(Refusal, usize),
+}
+
+// Writes the drawing file of the finished drawing that the arrays hold.
+fn put_drawing(
+    out: &mut [u8],
+    next: &[u16; 1024],
+    gap: &[u16; 1024],
+    owner: &[u16; 1024],
+    ys: &[u16; 1024],
+    dls: &[u16; 1024],
+    drs: &[u16; 1024],
+    hs: &[u16; 1024],
+    words: &[u16; 3072],
+    later: &[u16; 3072],
+    bends: &[u16; 3072],
+    c: Counts,
+) -> Written
+    requires { ⌜ Ended (arraysOf (now next) (now gap) (now owner) (now ys) (now dls) (now drs) (now hs) (now words) (now later) (now bends)) c ⌝ }
+    ensures { λ r. ⌜
+        ((d : Plan) → Whole d → Holds d (arraysOf (now (next .entry)) (now (gap .entry)) (now (owner .entry)) (now (ys .entry)) (now (dls .entry)) (now (drs .entry)) (now (hs .entry)) (now (words .entry)) (now (later .entry)) (now (bends .entry))) c →
+        Wrote (now (out .entry)) (good (drawingBytes d)) (now (out .exit)) r)
+        ⌝ }
+{
+    let need = 42 * c.n - 60;
+    if out.len() < need {
+        return Written::Refused(Refusal::OutputShort, 0);
+    }
+    let mut x = [0u16; 1024];
+    settling::settle(&mut x, next, gap, owner, c.k);
+    drawing_writer::write_drawing(out, &x, ys, dls, drs, hs, words, later, bends, c);
+    Written::Bytes(need)
+}
+
+// Writes the order file of the finished drawing that the arrays hold.
+fn put_order(out: &mut [u8], words: &[u16; 3072], later: &[u16; 3072], c: Counts) -> Written
+    requires { ⌜ Lined (now words) (now later) c ⌝ }
+    ensures { λ r. ⌜
+        ((d : Plan) → Whole d → LinesStored d (now (words .entry)) (now (later .entry)) c →
+        Wrote (now (out .entry)) (good (writeOrder d)) (now (out .exit)) r)
+        ⌝ }
+{
+    let need = order_writer::order_length(c);
+    if out.len() < need {
+        return Written::Refused(Refusal::OutputShort, 0);
+    }
+    Written::Bytes(order_writer::write_order(out, words, later, c))
+}
+
+// Draws an order file: its drawing file, or the refusal of document 01.
+pub fn draw(order: &[u8], out: &mut [u8]) -> Written
+    ensures { λ r. ⌜ Wrote (now (out .entry)) (drawFile (now (order .entry))) (now (out .exit)) r ⌝ }
+{
+    let mut next = [0u16; 1024];
+    let mut gap = [0u16; 1024];
+    let mut owner = [0u16; 1024];
+    let mut ys = [0u16; 1024];
+    let mut dls = [0u16; 1024];
+    let mut drs = [0u16; 1024];
+    let mut hs = [0u16; 1024];
+    let mut words = [0u16; 3072];
+    let mut later = [0u16; 3072];
+    let mut bends = [0u16; 3072];
+    let mut entries = [0u16; 65536];
+    let read = order_reader::read_order(
+        order,
+        &mut next,
+        &mut gap,
+        &mut owner,
+        &mut ys,
+        &mut dls,
+        &mut drs,
+        &mut hs,
+        &mut words,
+        &mut later,
+        &mut bends,
+        &mut entries,
+    );
+    let c = read.counts;
+    let answer = read.answer;
+    match answer {
+        Answer::Refused(r, p) => Written::Refused(r, p),
+        Answer::Accepted => put_drawing(out, &next, &gap, &owner, &ys, &dls, &drs, &hs, &words, &later, &bends, c),
+    }
+}
+
+// 11: the first byte where two files differ.
+fn compare(a: &[u8], b: &[u8]) -> Answer
+    ensures { λ r. ⌜ r ≡ answer (compareBytes 0 (now (a .entry)) (now (b .entry))) ⌝ }
+{
+    let mut i = 0;
+    while i < a.len() {
+        if b.len() <= i {
+            return Answer::Refused(Refusal::OtherDrawing, i);
+        }
+        if a[i] != b[i] {
+            return Answer::Refused(Refusal::OtherDrawing, i);
+        }
+        i += 1;
+    }
+    if i < b.len() {
+        return Answer::Refused(Refusal::OtherDrawing, i);
+    }
+    Answer::Accepted
+}
+
+// Compares a file with the drawing file of the finished drawing that the arrays hold.
+fn compare_drawing(
+    file: &[u8],
+    next: &[u16; 1024],
+    gap: &[u16; 1024],
+    owner: &[u16; 1024],
+    ys: &[u16; 1024],
+    dls: &[u16; 1024],
+    drs: &[u16; 1024],
+    hs: &[u16; 1024],
+    words: &[u16; 3072],
+    later: &[u16; 3072],
+    bends: &[u16; 3072],
+    c: Counts,
+) -> Answer
+    requires { ⌜ Ended (arraysOf (now next) (now gap) (now owner) (now ys) (now dls) (now drs) (now hs) (now words) (now later) (now bends)) c ⌝ }
+    ensures { λ r. ⌜
+        ((d : Plan) → Whole d → Holds d (arraysOf (now (next .entry)) (now (gap .entry)) (now (owner .entry)) (now (ys .entry)) (now (dls .entry)) (now (drs .entry)) (now (hs .entry)) (now (words .entry)) (now (later .entry)) (now (bends .entry))) c →
+        r ≡ answer (compareBytes 0 (now (file .entry)) (drawingBytes d)))
+        ⌝ }
+{
+    let mut drawn = [0u8; 42948];
+    let need = 42 * c.n - 60;
+    put_drawing(&mut drawn, next, gap, owner, ys, dls, drs, hs, words, later, bends, c);
+    compare(file, &drawn[..need])
+}
+
+// Reads a drawing file and gives its order file back, or the refusal of document 01.
+pub fn undraw(file: &[u8], out: &mut [u8]) -> Written
+    ensures { λ r. ⌜ Wrote (now (out .entry)) (orderBack (now (file .entry))) (now (out .exit)) r ⌝ }
+{
+    let mut next = [0u16; 1024];
+    let mut gap = [0u16; 1024];
+    let mut owner = [0u16; 1024];
+    let mut ys = [0u16; 1024];
+    let mut dls = [0u16; 1024];
+    let mut drs = [0u16; 1024];
+    let mut hs = [0u16; 1024];
+    let mut words = [0u16; 3072];
+    let mut later = [0u16; 3072];
+    let mut bends = [0u16; 3072];
+    let mut entries = [0u16; 3072];
+    let read = drawing_reader::read_lines(
+        file,
+        &mut next,
+        &mut gap,
+        &mut owner,
+        &mut ys,
+        &mut dls,
+        &mut drs,
+        &mut hs,
+        &mut words,
+        &mut later,
+        &mut bends,
+        &mut entries,
+    );
+    let c = read.counts;
+    let answer = read.answer;
+    match answer {
+        Answer::Refused(r, p) => Written::Refused(r, p),
+        Answer::Accepted => {
+            let same = compare_drawing(file, &next, &gap, &owner, &ys, &dls, &drs, &hs, &words, &later, &bends, c);
+            match same {
+                Answer::Refused(r, p) => Written::Refused(r, p),
+                Answer::Accepted => put_order(out, &words, &later, c),
+            }
+        }
+    }
+}
