@@ -46,6 +46,10 @@ pub record Turn (f : List ℕ) (at points : ℕ) (a₀ : Arrays) (c₀ : Counts)
   pub room : length e ≡ 65536
   pub reached : (d : Drawing) → Holds d a₀ c₀ → Reached f at points d a c place left
 
+-- one is less
+pub falls : {left : ℕ} → 0 < left → left - 1 < left
+falls h = omega arith
+
 -- before the first turn
 pub turn-first : {f : List ℕ} {at : ℕ} (points : ℕ) {a : Arrays} {c : Counts} {e : List ℕ} → Going f at a c e → Turn f at points a c a c e at points
 turn-first points g = record { within = g .place; room = g .room; reached = λ d h. record { new = d; holds = h; rest = refl } }

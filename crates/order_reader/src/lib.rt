@@ -7,45 +7,45 @@ use rules::Refusal;
 use words::broad;
 use words::word_at;
 ghost use mathlib.Core.Path.{_≡_};
+ghost use mathlib.Core.List.{[], _∷_};
 ghost use Prim.Native.Nat.{_+_, _*_, _≤_};
 ghost use lib.ListN.{length, take, drop};
 ghost use Rattle.rules.specs.Refusals.{answer};
-ghost use Rattle.rules.specs.Records.{wordsIn, readEnd};
-ghost use mathlib.Core.List.{[], _∷_};
 ghost use Rattle.rules.specs.Entries.{entryOf};
-ghost use Rattle.links.specs.Judging.{pointIn};
+ghost use Rattle.rules.specs.Records.{wordsIn, readEnd};
+ghost use Rattle.rules.specs.OrderFile.{readPoints, readOrder};
 ghost use Rattle.links.specs.Arrays.{arraysOf};
+ghost use Rattle.links.specs.Judging.{pointIn};
 ghost use Rattle.order_reader.specs.Reading.{cursor, markAt, NumberRead, HeadRead, ScaleRead, EntriesRead};
 ghost use Rattle.order_reader.specs.Starting.{thirdFrom, secondFrom, pointsFrom, StartRead};
 ghost use Rattle.order_reader.specs.Points.{Going, PointRead, RestRead, Blank, Headed, Gave};
-ghost use Rattle.rules.specs.OrderFile.{readPoints, readOrder};
 
 // The number of a record that holds one.
-pub enum Number {
+enum Number {
     Given(u16),
     Refused(Refusal, usize),
 }
 
 // The header and the scale: n, s and the offset behind them.
-pub enum Head {
+enum Head {
     Given { n: usize, s: usize, at: usize },
     Refused(Refusal, usize),
 }
 
 // The entries of a point's record: how many, and the offset behind them.
-pub enum Entries {
+enum Entries {
     Given { count: usize, next: usize },
     Refused(Refusal, usize),
 }
 
 // The records of points 1 to 3: the entries of lines 1-2, 3-1 and 3-2, and the offset behind them.
-pub enum Start {
+enum Start {
     Given { a: u16, b: u16, c: u16, at: usize },
     Refused(Refusal, usize),
 }
 
 // One point more: the numbers with it, and the offset behind its record.
-pub enum Step {
+enum Step {
     Given { counts: Counts, at: usize },
     Refused(Refusal, usize),
 }

@@ -4,3 +4,4 @@ pub mod Files
 pub mod Reading
 pub mod Comparing
 pub mod Undrawing
+pub mod Called

@@ -3,12 +3,14 @@ use mathlib.Core.Path.{_≡_, refl}
 use mathlib.Core.List.{List}
 use Prim.Native.Nat.{ℕ, _<_, _≤_}
 use lib.ListN.{length}
+use lib.Dec.{ltb}
 use borrow.Author.Tests.{lt-ltb, le-ltb}
 use Rattle.rules.specs.declared.Refusal.{Refusal}
-use Rattle.rules.specs.declared.Refusal.the-variants.{OutputShort}
-use Rattle.rules.specs.Refusals.{Result, good, refused}
+use Rattle.rules.specs.declared.Refusal.the-variants.{OutputShort, Unfinished}
+use Rattle.rules.specs.Refusals.{Result, good, refused, _>>_, refuseIf}
 use Rattle.rules.specs.Output.{fitted, filled}
 use Rattle.rules.specs.Points.{Drawing as Plan}
+use Rattle.rules.specs.OrderFile.{writeOrder}
 use Rattle.links.specs.declared.Counts.{Counts}
 use Rattle.links.specs.Arrays.{Arrays}
 use Rattle.stored.specs.Adding.{Holds}
@@ -26,6 +28,12 @@ written (refused r p) = Refused r p
 pub record Wrote (before : List ℕ) (wanted : Result (List ℕ)) (after : List ℕ) (r : Written) : Type 0 where
   pub answer : r ≡ written (fitted before wanted)
   pub bytes : after ≡ filled before (fitted before wanted)
+
+-- the order file of a drawing: 22 while k < n
+abbrev pub wholeOrder : Plan → Result (List ℕ)
+wholeOrder d = do
+  refuseIf (ltb (d .k) (d .n)) Unfinished 0
+  good (writeOrder d)
 
 -- the arrays hold a whole drawing
 pub record Ended (a : Arrays) (c : Counts) : Type 0 where

@@ -4,18 +4,20 @@ use links::Counts;
 use rules::Answer;
 use rules::Refusal;
 ghost use mathlib.Core.Path.{_≡_};
-ghost use Prim.Native.Nat.{_≤_};
-ghost use lib.ListN.{length};
+ghost use mathlib.Core.List.{List};
+ghost use Prim.Native.Nat.{ℕ};
 ghost use Rattle.rules.specs.Refusals.{good, answer};
 ghost use Rattle.rules.specs.Points.{Drawing as Plan};
+ghost use Rattle.rules.specs.Calls.{drawn};
 ghost use Rattle.rules.specs.OrderFile.{writeOrder};
-ghost use Rattle.rules.specs.DrawingFile.{drawingBytes, drawFile, orderBack, compareBytes};
+ghost use Rattle.rules.specs.DrawingFile.{drawingBytes, writeDrawing, drawFile, orderBack, compareBytes};
 ghost use Rattle.links.specs.Arrays.{arraysOf};
 ghost use Rattle.stored.specs.Adding.{Holds};
 ghost use Rattle.exchange.specs.Built.{Whole};
 ghost use Rattle.order_writer.specs.Writing.{LinesStored};
-ghost use Rattle.drawing.specs.View.{Came, Is};
-ghost use Rattle.panel.specs.Outputs.{Wrote, Ended, Lined};
+ghost use Rattle.drawing.specs.View.{Came};
+ghost use Rattle.panel.specs.Outputs.{Wrote, Ended, Lined, wholeOrder};
+ghost use Rattle.panel.specs.Called.{Drew};
 
 // What a call that writes answers: the number of bytes written, or a refusal with its place.
 pub enum Written {
@@ -194,4 +196,40 @@ pub fn undraw(file: &[u8], out: &mut [u8]) -> Written
             }
         }
     }
+}
+
+// The drawing file of a drawing that came from calls: 22 while it is unfinished, 24 where the buffer is short.
+pub fn drawing_file(d: Drawing, out: &mut [u8]) -> Written
+    requires { ⌜ Came d ⌝ }
+    ensures { λ r. ⌜ ((n : ℕ) (calls : List (List ℕ)) → Drew n calls d → Wrote (now (out .entry)) (writeDrawing (drawn n calls)) (now (out .exit)) r) ⌝ }
+{
+    let c = d.counts;
+    if c.k < c.n {
+        return Written::Refused(Refusal::Unfinished, 0);
+    }
+    let next = d.next;
+    let gap = d.gap;
+    let owner = d.owner;
+    let ys = d.ys;
+    let dls = d.dls;
+    let drs = d.drs;
+    let hs = d.hs;
+    let words = d.words;
+    let later = d.later;
+    let bends = d.bends;
+    put_drawing(out, &next, &gap, &owner, &ys, &dls, &drs, &hs, &words, &later, &bends, c)
+}
+
+// Its order file, in the same manner.
+pub fn order_file(d: Drawing, out: &mut [u8]) -> Written
+    requires { ⌜ Came d ⌝ }
+    ensures { λ r. ⌜ ((n : ℕ) (calls : List (List ℕ)) → Drew n calls d → Wrote (now (out .entry)) (wholeOrder (drawn n calls)) (now (out .exit)) r) ⌝ }
+{
+    let c = d.counts;
+    if c.k < c.n {
+        return Written::Refused(Refusal::Unfinished, 0);
+    }
+    let words = d.words;
+    let later = d.later;
+    put_order(out, &words, &later, c)
 }

@@ -54,7 +54,7 @@ returns c =
     head-refused (file y) (y .read-head .result) (y .read-head .ensures) _ _ (r .r .given .1) (c .refuse .result) (c .refuse .ensures) (before y)
 
 same-length : tie.Need-same-length
-same-length c = search needs
+same-length c = c .before .before .read-points .kept .1 .1 .1 .1 .1 .1 .1 .1 .1 .1 .1 .1 .1 .1 .0
 
 returns-2 : tie.Need-returns-2
 returns-2 c =

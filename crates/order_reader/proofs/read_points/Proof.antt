@@ -19,7 +19,12 @@ left-in d = d .read-first .last .1 .1 .0
 still : (d : tie.After-read-first) → length (left-in d) ≡ 65536
 still d = d .read-first .kept .1 .1 .0 ∙ start d .pre .blank .room
 
--- the arrays as opened, and after the rest
+-- the arrays at first, as opened, and after the rest
+abbrev arrays : tie.After-read-first → Arrays
+arrays y =
+    let a = start y .args in
+    arraysOf (a .next .now) (a .gap .now) (a .owner .now) (a .ys .now) (a .dls .now) (a .drs .now) (a .hs .now) (a .words .now) (a .later .now) (a .bends .now)
+
 abbrev opened : tie.After-open-in → Arrays
 opened o =
     let l = o .open-in .last in
@@ -38,7 +43,7 @@ abbrev points : tie.After-known-told2 → tie.After-read-first
 points d = d .before .before .before .before .before
 
 read-first-requires : tie.Need-read-first-requires
-read-first-requires c κs = search needs
+read-first-requires c κs = let z = c .before .before .before in (z .pre .place, z .pre .blank .room)
 
 enum-known-r : tie.Need-enum-known-r
 enum-known-r c = search needs
@@ -50,7 +55,7 @@ enum-known-a : tie.Need-enum-known-a
 enum-known-a c = search needs
 
 open-in-requires : tie.Need-open-in-requires
-open-in-requires c κs = search needs
+open-in-requires c κs = start (points (c .before .before .before .before .before .before .before .before .before .before)) .pre .blank .zeros
 
 sub-points : tie.Need-sub-points
 sub-points c = search needs
@@ -63,13 +68,13 @@ read-rest-requires c κs =
     start-going (start y .pre) (start y .args .s) (d .before .a .given .0 .0) (d .before .a .given .0 .1 .0) (d .before .a .given .0 .1 .1 .0) (d .before .a .given .0 .1 .1 .1 .0) (y .read-first .result) (y .read-first .ensures) (d .before .a .given .1) (opened o) (o .open-in .ensures) (left-in y) (still y)
 
 same-length : tie.Need-same-length
-same-length c = search needs
+same-length c = c .before .before .before .before .before .before .read-first .kept .1 .1 .0
 
 returns : tie.Need-returns
 returns c =
     let r = c .before .before in
     let y = r .before .before .before .before in
-    start-refused (start y .pre) (start y .args .s) (y .read-first .result) (y .read-first .ensures) _ _ (r .r .given .1) (c .refuse .result) (c .refuse .ensures) _
+    start-refused (start y .pre) (start y .args .s) (y .read-first .result) (y .read-first .ensures) _ _ (r .r .given .1) (c .refuse .result) (c .refuse .ensures) (arrays y)
 
 same-length-2 : tie.Need-same-length-2
 same-length-2 c =

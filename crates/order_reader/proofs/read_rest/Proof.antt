@@ -5,7 +5,7 @@ use mathlib.Core.List.{List}
 use lib.ListN.{length}
 use borrow.Author.Needs.{needs}
 use Rattle.links.specs.Arrays.{Arrays, arraysOf}
-use Rattle.order_reader.proofs.Turns.{Turn, turn-first, turn-ready, turn-next, turn-refused, turn-end}
+use Rattle.order_reader.proofs.Turns.{Turn, falls, turn-first, turn-ready, turn-next, turn-refused, turn-end}
 use Rattle.order_reader.proofs.read_rest.Statement.{statement}
 use Rattle.order_reader.proofs.read_rest.Tie as tie
 
@@ -67,7 +67,7 @@ sub-left : tie.Need-sub-left Inv-loop μ-loop
 sub-left c = search needs
 
 loop-less : tie.Need-loop-less Inv-loop μ-loop
-loop-less c = search needs
+loop-less c = falls (turn-of (c .before .before .before .before .before) .loop-test .taken)
 
 loop-again : tie.Need-loop-again Inv-loop μ-loop
 loop-again c =
@@ -80,7 +80,7 @@ read-end-requires : tie.Need-read-end-requires Inv-loop μ-loop
 read-end-requires c κs = c .before .loop .inv .within
 
 same-length-2 : tie.Need-same-length-2 Inv-loop μ-loop
-same-length-2 c = search needs
+same-length-2 c = let b = c .before .before in b .loop .inv .room ∙ sym (b .before .before .before .pre .room)
 
 returns-2 : tie.Need-returns-2 Inv-loop μ-loop
 returns-2 c = turn-end (c .before .before .loop .inv) (c .before .loop-test .left) (c .read-end .result) (c .read-end .ensures)
