@@ -1,0 +1,4 @@
+// The drawing program: an order file from standard input, its drawing file or the line of its refusal to standard output.
+fn main() {
+    let _ = files::draw(0);
+}
