@@ -1,5 +1,5 @@
 // Prints the cutter moves of document 01's K4 (n = 5, add 1,3, then 1,4,3,2) with two tools, one line a move, in eighths of a millimetre.
-// A drawing that came by calls has the scale 1, so the second tool stands in for a larger scale.
+// A drawing that came from calls has scale 1. Coordinates are written coordinate times scale times pitch over 8, so the first tool's pitch of 80 gives those of scale 8 with pitch 10.
 use cutter::Counted;
 use cutter::Moved;
 use drawing::Drawing;

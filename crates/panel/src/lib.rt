@@ -64,8 +64,8 @@ fn put_order(out: &mut [u8], words: &[u16; 3072], later: &[u16; 3072], c: Counts
         Wrote (now (out .entry)) (good (writeOrder d)) (now (out .exit)) r)
         ⌝ }
 {
-    let need = order_writer::order_length(c);
-    if out.len() < need {
+    let length = order_writer::order_length(c);
+    if out.len() < length {
         return Written::Refused(Refusal::OutputShort, 0);
     }
     Written::Bytes(order_writer::write_order(out, words, later, c))
@@ -104,7 +104,20 @@ pub fn draw(order: &[u8], out: &mut [u8]) -> Written
     let answer = read.answer;
     match answer {
         Answer::Refused(r, p) => Written::Refused(r, p),
-        Answer::Accepted => put_drawing(out, &next, &gap, &owner, &ys, &dls, &drs, &hs, &words, &later, &bends, c),
+        Answer::Accepted => put_drawing(
+            out,
+            &next,
+            &gap,
+            &owner,
+            &ys,
+            &dls,
+            &drs,
+            &hs,
+            &words,
+            &later,
+            &bends,
+            c,
+        ),
     }
 }
 
@@ -151,7 +164,20 @@ fn compare_drawing(
 {
     let mut drawn = [0u8; 42948];
     let need = 42 * c.n - 60;
-    put_drawing(&mut drawn, next, gap, owner, ys, dls, drs, hs, words, later, bends, c);
+    put_drawing(
+        &mut drawn,
+        next,
+        gap,
+        owner,
+        ys,
+        dls,
+        drs,
+        hs,
+        words,
+        later,
+        bends,
+        c,
+    );
     compare(file, &drawn[..need])
 }
 
@@ -189,7 +215,20 @@ pub fn undraw(file: &[u8], out: &mut [u8]) -> Written
     match answer {
         Answer::Refused(r, p) => Written::Refused(r, p),
         Answer::Accepted => {
-            let same = compare_drawing(file, &next, &gap, &owner, &ys, &dls, &drs, &hs, &words, &later, &bends, c);
+            let same = compare_drawing(
+                file,
+                &next,
+                &gap,
+                &owner,
+                &ys,
+                &dls,
+                &drs,
+                &hs,
+                &words,
+                &later,
+                &bends,
+                c,
+            );
             match same {
                 Answer::Refused(r, p) => Written::Refused(r, p),
                 Answer::Accepted => put_order(out, &words, &later, c),
@@ -217,7 +256,20 @@ pub fn drawing_file(d: Drawing, out: &mut [u8]) -> Written
     let words = d.words;
     let later = d.later;
     let bends = d.bends;
-    put_drawing(out, &next, &gap, &owner, &ys, &dls, &drs, &hs, &words, &later, &bends, c)
+    put_drawing(
+        out,
+        &next,
+        &gap,
+        &owner,
+        &ys,
+        &dls,
+        &drs,
+        &hs,
+        &words,
+        &later,
+        &bends,
+        c,
+    )
 }
 
 // Its order file, in the same manner.

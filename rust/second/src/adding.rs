@@ -1,0 +1,245 @@
+//! Adding a point: the tests in their order, then steps 1 to 5.
+
+use crate::drawing::{Bend, Drawing, Line, Place, Point};
+use crate::entry::Entry;
+use crate::refusal::{
+    Refusal, COVERED, FEW_ENTRIES, FINISHED, LISTED_OTHERWISE, NOT_PLACED, NOT_WHOLE, NO_PORT,
+    NO_RUN,
+};
+
+/// A run wl, .., wr as indexes into the boundary, l < r.
+#[derive(Clone, Copy)]
+struct Run {
+    l: usize,
+    r: usize,
+}
+
+impl Drawing {
+    /// "an adding call's entries are 16-bit numbers in the file's form"
+    pub fn add(&mut self, entries: &[u16]) -> Result<(), Refusal> {
+        let entries: Vec<Entry> = entries.iter().map(|&word| Entry::split(word)).collect();
+        self.add_entries(&entries)
+    }
+
+    /// "Point 1 has no entry, point 2 has 1, point 3 has 1, 2, guide or not"; later points are added.
+    pub(crate) fn list_point(&mut self, point: u16, entries: &[Entry]) -> Result<(), Refusal> {
+        let (expected, first_line): (&[u16], usize) = match point {
+            1 => (&[], 0),
+            2 => (&[1], 0),
+            3 => (&[1, 2], 1),
+            _ => return self.add_entries(entries),
+        };
+        if !entries.iter().map(|e| e.point).eq(expected.iter().copied()) {
+            return Err(Refusal::new(LISTED_OTHERWISE, 0));
+        }
+        for (line, entry) in self.lines[first_line..].iter_mut().zip(entries) {
+            line.cut = !entry.guide;
+        }
+        Ok(())
+    }
+
+    /// "The first refusal that applies is the answer, with its number and place, and nothing
+    /// changes." "a test that needs new places is made on a copy"
+    fn add_entries(&mut self, entries: &[Entry]) -> Result<(), Refusal> {
+        let run = self.test_entries(entries)?;
+        let mut copy = self.clone();
+        copy.add_run(run, entries)?;
+        *self = copy;
+        Ok(())
+    }
+
+    /// "Order in adding: 21, 5, then entry by entry 6 before 7, then 8, 9"
+    fn test_entries(&self, entries: &[Entry]) -> Result<Run, Refusal> {
+        if self.is_finished() {
+            return Err(Refusal::new(FINISHED, 0));
+        }
+        if entries.len() < 2 {
+            return Err(Refusal::new(FEW_ENTRIES, 0));
+        }
+        for (index, entry) in entries.iter().enumerate() {
+            if entry.point == 0 || entry.point > self.k() {
+                return Err(Refusal::new(NOT_PLACED, index));
+            }
+            if self.point(entry.point).owner.is_some() {
+                return Err(Refusal::new(COVERED, index));
+            }
+        }
+        let run = self.test_run(entries)?;
+        let whole = run.l == 0 && run.r + 1 == self.boundary.len();
+        if self.k() + 1 == self.n && !whole {
+            return Err(Refusal::new(NOT_WHOLE, 0));
+        }
+        Ok(run)
+    }
+
+    /// "8: the first entry that isn't next on the boundary after the entry before it"; all entries
+    /// are on the boundary.
+    fn test_run(&self, entries: &[Entry]) -> Result<Run, Refusal> {
+        let first = entries[0].point;
+        let from_first = self.boundary.iter().skip_while(|&&w| w != first);
+        let l = self.boundary.len() - from_first.clone().count();
+        let matching = from_first
+            .zip(entries)
+            .take_while(|(&w, entry)| w == entry.point)
+            .count();
+        if matching < entries.len() {
+            return Err(Refusal::new(NO_RUN, matching));
+        }
+        let r = l + entries.len() - 1;
+        Ok(Run { l, r })
+    }
+
+    /// "Steps 1 to 5 are done, with the run still on the boundary. Then the covered points leave it,
+    /// the new point owns them and stands between wl and wr. Its lines are added last, in entry
+    /// order, cut unless the entry says guide. k grows by 1."
+    fn add_run(&mut self, run: Run, entries: &[Entry]) -> Result<(), Refusal> {
+        let place = self.make_room(run);
+        let inner = self.boundary[run.l + 1..run.r].to_vec();
+        let new_point = Point {
+            place,
+            dl: 0,
+            dr: 0,
+            h: (run.r - run.l).div_ceil(2) as u16,
+            owner: None,
+        };
+        let ports = self.middle_ports(&new_point, &inner)?;
+
+        let right = Bend::Right(self.point(self.boundary[run.l]).dr);
+        let left = Bend::Left(self.point(self.boundary[run.r]).dl);
+        let middle = ports.into_iter().map(Bend::Middle);
+        let bends = std::iter::once(right)
+            .chain(middle)
+            .chain(std::iter::once(left));
+
+        let later = self.k() + 1;
+        for &covered in &inner {
+            self.point_mut(covered).owner = Some(later);
+        }
+        self.boundary.splice(run.l + 1..run.r, [later]);
+        self.points.push(new_point);
+        self.lines
+            .extend(entries.iter().zip(bends).map(|(entry, bend)| Line {
+                later,
+                earlier: entry.point,
+                bend,
+                cut: !entry.guide,
+            }));
+        Ok(())
+    }
+
+    /// Steps 1 to 4; gives the new point's place.
+    fn make_room(&mut self, run: Run) -> Place {
+        let wl = self.boundary[run.l];
+        let wr = self.boundary[run.r];
+
+        let s1 = if self.point(wl).dr == 0 { 2 } else { 1 };
+        self.move_right(run.l + 1, s1);
+        self.point_mut(wl).dr += 1;
+
+        let s2 = if self.point(wr).dl == 0 { 2 } else { 1 };
+        self.move_right(run.r, s2);
+        self.point_mut(wr).dl += 1;
+
+        let at_l = self.point(wl).place;
+        let at_r = self.point(wr).place;
+        let a = at_l.x - at_l.y + 1;
+        let mut b = at_r.x + at_r.y - 1;
+        if (a + b) % 2 != 0 {
+            self.move_right(run.r, 1);
+            b += 1;
+        }
+        Place {
+            x: (a + b) / 2,
+            y: (b - a) / 2,
+        }
+    }
+
+    /// "To move a boundary point is to move all it owns, and what those own", for the boundary
+    /// points from the given index up to wm.
+    fn move_right(&mut self, from: usize, by: i64) {
+        let moving: Vec<usize> = (0..self.points.len())
+            .filter(|&index| self.boundary[from..].contains(&self.climb(index as u16 + 1)))
+            .collect();
+        for index in moving {
+            self.points[index].place.x += by;
+        }
+    }
+
+    /// The boundary point that a point moves with: its owner's owner and so on, up to the boundary.
+    fn climb(&self, point: u16) -> u16 {
+        let mut top = point;
+        while let Some(owner) = self.point(top).owner {
+            top = owner;
+        }
+        top
+    }
+
+    /// Step 5 and 25: the index of the middle port that each inner point takes.
+    fn middle_ports(&self, new_point: &Point, inner: &[u16]) -> Result<Vec<u16>, Refusal> {
+        let reached = |port: u16, point: u16| {
+            port < 2 * new_point.h && reaches(new_point.middle_port(port), self.point(point).place)
+        };
+        let numbered = || (1..).zip(inner.iter().copied());
+        if numbered().any(|(i, point)| !reached(i, point) && !reached(i + 1, point)) {
+            return Err(Refusal::new(NO_PORT, 0));
+        }
+        let before_change = numbered()
+            .take_while(|&(i, point)| reached(i, point))
+            .count();
+        let ports = (1..=inner.len())
+            .map(|i| if i <= before_change { i } else { i + 1 })
+            .map(|port| port as u16);
+        Ok(ports.collect())
+    }
+}
+
+/// "A middle port at (a,b) reaches (c,e) if the distance of a and c is at most b - e."
+fn reaches(port: Place, point: Place) -> bool {
+    (port.x - point.x).abs() <= port.y - point.y
+}
+
+#[cfg(test)]
+mod tests {
+    use crate::{open, Refusal};
+
+    // "Order in adding: 21, 5, then entry by entry 6 before 7, then 8, 9, 25", with places.
+    #[test]
+    fn refusals_in_order_and_nothing_changes() {
+        let mut drawing = open(6).unwrap();
+        drawing.add(&[1, 3, 2]).unwrap();
+        let cases: [(&[u16], u16, usize); 15] = [
+            (&[], 5, 0),
+            (&[0], 5, 0),
+            (&[1], 5, 0),
+            (&[0, 3], 6, 0),
+            (&[3, 0], 7, 0),
+            (&[1, 0x8000], 6, 1),
+            (&[1, 5], 6, 1),
+            (&[1, 0xffff], 6, 1),
+            (&[1, 2, 3], 7, 2),
+            (&[2, 1, 5], 6, 2),
+            (&[1, 2], 8, 1),
+            (&[1, 1], 8, 1),
+            (&[2, 4], 8, 1),
+            (&[1, 4, 1], 8, 2),
+            (&[1, 4, 2, 2], 8, 3),
+        ];
+        for (entries, number, place) in cases {
+            let before = drawing.clone();
+            assert_eq!(drawing.add(entries), Err(Refusal::new(number, place)));
+            assert_eq!(drawing, before);
+        }
+        drawing.add(&[1, 4]).unwrap();
+        for (entries, number) in [(&[1, 5][..], 9), (&[5, 4, 2], 9), (&[1, 5, 4], 9)] {
+            let before = drawing.clone();
+            assert_eq!(drawing.add(entries), Err(Refusal::new(number, 0)));
+            assert_eq!(drawing, before);
+        }
+        drawing.add(&[1, 5, 4, 2]).unwrap();
+        for entries in [&[][..], &[0], &[1, 6, 2]] {
+            let before = drawing.clone();
+            assert_eq!(drawing.add(entries), Err(Refusal::new(21, 0)));
+            assert_eq!(drawing, before);
+        }
+    }
+}

@@ -1,0 +1,284 @@
+//! Points, boundary, owners, ports, opening and look-ups.
+
+use crate::refusal::{Refusal, NO_SUCH, OUT_OF_RANGE};
+
+/// A place in grid units; "y points up".
+#[derive(Clone, Copy, Debug, PartialEq, Eq, PartialOrd, Ord)]
+pub struct Place {
+    pub x: i64,
+    pub y: i64,
+}
+
+/// A placed point.
+#[derive(Clone, Copy, Debug, PartialEq, Eq)]
+pub struct Point {
+    pub place: Place,
+    /// The left count.
+    pub dl: u16,
+    /// The right count.
+    pub dr: u16,
+    /// How far the middle row lies below the point; 0 for points 1 to 3, which have no middle row.
+    pub h: u16,
+    /// The point that covered this one, if it is covered.
+    pub owner: Option<u16>,
+}
+
+/// "A line's bend is at a left, right or middle port, or it has none", with the port's index.
+#[derive(Clone, Copy, Debug, PartialEq, Eq)]
+pub enum Bend {
+    /// Line 1-2 only.
+    None,
+    /// Left port of the earlier point.
+    Left(u16),
+    /// Right port of the earlier point.
+    Right(u16),
+    /// Middle port of the later point.
+    Middle(u16),
+}
+
+/// A line from a later point to an earlier one.
+#[derive(Clone, Copy, Debug, PartialEq, Eq)]
+pub struct Line {
+    pub later: u16,
+    pub earlier: u16,
+    pub bend: Bend,
+    pub cut: bool,
+}
+
+/// What the look-up of a line gives.
+#[derive(Clone, Copy, Debug, PartialEq, Eq)]
+pub struct LineAnswer {
+    pub later: u16,
+    pub earlier: u16,
+    pub bend: Bend,
+    pub bend_place: Place,
+    pub cut: bool,
+}
+
+/// A drawing; k is the number of `points`, and point p is `points[p - 1]`.
+#[derive(Clone, Debug, PartialEq, Eq)]
+pub struct Drawing {
+    pub n: u16,
+    pub s: u16,
+    /// w1, .., wm, left to right.
+    pub boundary: Vec<u16>,
+    pub points: Vec<Point>,
+    pub lines: Vec<Line>,
+}
+
+/// "A drawing is opened for n points, n from 3 to 1,024."
+pub fn open(n: u16) -> Result<Drawing, Refusal> {
+    if !(3..=1024).contains(&n) {
+        return Err(Refusal::new(OUT_OF_RANGE, 0));
+    }
+    Ok(Drawing {
+        n,
+        s: 1,
+        boundary: vec![1, 3, 2],
+        points: vec![
+            opening_point(0, 0, 0, 1),
+            opening_point(6, 0, 1, 0),
+            opening_point(3, 2, 0, 0),
+        ],
+        lines: vec![
+            cut_line(2, 1, Bend::None),
+            cut_line(3, 1, Bend::Right(1)),
+            cut_line(3, 2, Bend::Left(1)),
+        ],
+    })
+}
+
+/// "Opening places points 1, 2, 3", "after opening, dr of point 1 and dl of point 2 are 1".
+fn opening_point(x: i64, y: i64, dl: u16, dr: u16) -> Point {
+    Point {
+        place: Place { x, y },
+        dl,
+        dr,
+        h: 0,
+        owner: None,
+    }
+}
+
+/// "line 1-2 without a port, 3-1 at right port 1 of point 1, 3-2 at left port 1 of point 2, all cut"
+fn cut_line(later: u16, earlier: u16, bend: Bend) -> Line {
+    Line {
+        later,
+        earlier,
+        bend,
+        cut: true,
+    }
+}
+
+impl Point {
+    /// "Right port j (1 to dr) of a point (x,y) is (x + dr + 1, y + j), with the dr of now."
+    pub fn right_port(&self, j: u16) -> Place {
+        Place {
+            x: self.place.x + i64::from(self.dr) + 1,
+            y: self.place.y + i64::from(j),
+        }
+    }
+
+    /// "Left port j (1 to dl) is (x - dl - 1, y + j)."
+    pub fn left_port(&self, j: u16) -> Place {
+        Place {
+            x: self.place.x - i64::from(self.dl) - 1,
+            y: self.place.y + i64::from(j),
+        }
+    }
+
+    /// "Middle port i (1 to 2h - 1) is (x - h + i, y - h)."
+    pub fn middle_port(&self, i: u16) -> Place {
+        Place {
+            x: self.place.x - i64::from(self.h) + i64::from(i),
+            y: self.place.y - i64::from(self.h),
+        }
+    }
+}
+
+impl Line {
+    /// "A port is at the point that owns it": the owner of the line's port, none for line 1-2.
+    pub fn port_owner(&self) -> Option<u16> {
+        match self.bend {
+            Bend::None => None,
+            Bend::Left(_) | Bend::Right(_) => Some(self.earlier),
+            Bend::Middle(_) => Some(self.later),
+        }
+    }
+
+    /// Whether the line ends at the point.
+    pub fn ends_at(&self, point: u16) -> bool {
+        self.later == point || self.earlier == point
+    }
+
+    /// The end of the line that isn't the given end.
+    pub fn other_end(&self, point: u16) -> u16 {
+        if self.later == point {
+            self.earlier
+        } else {
+            self.later
+        }
+    }
+}
+
+impl Drawing {
+    /// "k is how many are placed."
+    pub fn k(&self) -> u16 {
+        self.points.len() as u16
+    }
+
+    /// Whether all n points are placed, k = n.
+    pub fn is_finished(&self) -> bool {
+        self.k() == self.n
+    }
+
+    /// A point from 1 to k.
+    pub fn point(&self, point: u16) -> &Point {
+        &self.points[usize::from(point) - 1]
+    }
+
+    /// A point from 1 to k, to be changed.
+    pub(crate) fn point_mut(&mut self, point: u16) -> &mut Point {
+        &mut self.points[usize::from(point) - 1]
+    }
+
+    /// "W is the x of point 2."
+    pub fn width(&self) -> i64 {
+        self.point(2).place.x
+    }
+
+    /// "height (the largest y)"
+    pub fn height(&self) -> i64 {
+        self.points.iter().map(|p| p.place.y).max().unwrap_or(0)
+    }
+
+    /// "A line's bend is at a left, right or middle port, or it has none (line 1-2 only; its bend
+    /// is written as the place of point 1)."
+    pub fn bend_of(&self, line: &Line) -> Place {
+        match line.bend {
+            Bend::None => self.point(1).place,
+            Bend::Left(j) => self.point(line.earlier).left_port(j),
+            Bend::Right(j) => self.point(line.earlier).right_port(j),
+            Bend::Middle(i) => self.point(line.later).middle_port(i),
+        }
+    }
+
+    /// "Look-ups give, in grid units, a point's place"; 23 if there is no such point.
+    pub fn place_of(&self, point: u16) -> Result<Place, Refusal> {
+        self.known_point(point)?;
+        Ok(self.point(point).place)
+    }
+
+    /// "a line's ends, bend and cut flag"; 23 if there is no such line.
+    pub fn line(&self, number: usize) -> Result<LineAnswer, Refusal> {
+        let line = self.lines.get(number).ok_or(Refusal::new(NO_SUCH, 0))?;
+        Ok(LineAnswer {
+            later: line.later,
+            earlier: line.earlier,
+            bend: line.bend,
+            bend_place: self.bend_of(line),
+            cut: line.cut,
+        })
+    }
+
+    /// "some cut line ending at a given point, or none exactly if there is none"; 23 if there is no
+    /// such point.
+    pub fn cut_line_at(&self, point: u16) -> Result<Option<usize>, Refusal> {
+        self.known_point(point)?;
+        Ok(self.lines.iter().position(|l| l.cut && l.ends_at(point)))
+    }
+
+    /// "23 no such point": only points 1 to k are there.
+    fn known_point(&self, point: u16) -> Result<(), Refusal> {
+        if (1..=self.k()).contains(&point) {
+            Ok(())
+        } else {
+            Err(Refusal::new(NO_SUCH, 0))
+        }
+    }
+}
+
+#[cfg(test)]
+mod tests {
+    use super::*;
+
+    // "A drawing is opened for n points, n from 3 to 1,024."
+    #[test]
+    fn n_from_3_to_1024_opens() {
+        for n in 0..=u16::MAX {
+            match open(n) {
+                Ok(drawing) => assert!((3..=1024).contains(&n) && drawing.n == n),
+                Err(refusal) => {
+                    assert!(!(3..=1024).contains(&n));
+                    assert_eq!(refusal, Refusal::new(3, 0));
+                }
+            }
+        }
+    }
+
+    // "23 no such point, line or move", for points and lines.
+    #[test]
+    fn unknown_points_and_lines_give_23() {
+        let drawing = open(10).unwrap();
+        let none = Refusal::new(23, 0);
+        for point in [0, 4, 10, 11, u16::MAX] {
+            assert_eq!(drawing.place_of(point), Err(none));
+            assert_eq!(drawing.cut_line_at(point), Err(none));
+        }
+        assert_eq!(drawing.line(3), Err(none));
+        assert_eq!(drawing.line(usize::MAX), Err(none));
+        assert_eq!(drawing.line(1).unwrap().bend_place, Place { x: 2, y: 1 });
+        assert_eq!(drawing.line(2).unwrap().bend_place, Place { x: 4, y: 1 });
+    }
+
+    // "or none exactly if there is none"
+    #[test]
+    fn a_point_with_guides_only_has_no_cut_line() {
+        let mut drawing = open(6).unwrap();
+        drawing.add(&[0x8001, 0x8003]).unwrap();
+        drawing.add(&[0x8004, 3]).unwrap();
+        assert_eq!(drawing.cut_line_at(4), Ok(None));
+        let number = drawing.cut_line_at(5).unwrap().unwrap();
+        let line = drawing.line(number).unwrap();
+        assert!(line.cut && line.later == 5);
+    }
+}

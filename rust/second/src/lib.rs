@@ -1,0 +1,19 @@
+//! A second implementation of document 01, "One-bend panel drawings".
+
+pub mod drawing;
+pub mod drawing_file;
+pub mod generate;
+pub mod moves;
+pub mod order_file;
+pub mod promise;
+pub mod refusal;
+pub mod svg;
+
+mod adding;
+mod convert;
+mod entry;
+mod records;
+
+pub use convert::{draw, undraw};
+pub use drawing::{open, Bend, Drawing, Line, LineAnswer, Place, Point};
+pub use refusal::Refusal;

@@ -1,0 +1,198 @@
+//! Cutter moves.
+
+use crate::drawing::{Drawing, Line, Place};
+use crate::drawing_file::written;
+use crate::refusal::{Refusal, NO_SUCH, TOOL_NUMBER, UNFINISHED};
+
+const MOVES_PER_LINE: usize = 5;
+
+/// "a tool is three whole numbers of eighths of a millimetre, pitch 1 to 80, depth 1 to 40,
+/// clearance 1 to 80, held as f32"
+#[derive(Clone, Copy, Debug, PartialEq)]
+pub struct Tool {
+    pub pitch: f32,
+    pub depth: f32,
+    pub clearance: f32,
+}
+
+/// "travel and cut carry two f32, plunge and lift carry one"
+#[derive(Clone, Copy, Debug, PartialEq)]
+pub enum Move {
+    Travel(f32, f32),
+    Plunge(f32),
+    Cut(f32, f32),
+    Lift(f32),
+}
+
+/// "Moves are numbered from 0 through the cut lines in line order, and given one at a time by
+/// number. Order of refusals: 12, 22, 23."
+pub fn move_at(drawing: &Drawing, tool: Tool, number: usize) -> Result<Move, Refusal> {
+    test_tool(tool)?;
+    test_finished(drawing)?;
+    let line = cut_lines(drawing)
+        .nth(number / MOVES_PER_LINE)
+        .ok_or(Refusal::new(NO_SUCH, 0))?;
+    let at = |place: Place| {
+        let x = millimetres(drawing, tool, place.x);
+        let y = millimetres(drawing, tool, place.y);
+        (x, y)
+    };
+    Ok(match number % MOVES_PER_LINE {
+        0 => {
+            let (x, y) = at(drawing.point(line.later).place);
+            Move::Travel(x, y)
+        }
+        1 => Move::Plunge(-tool.depth / 8.0),
+        2 => {
+            let (x, y) = at(drawing.bend_of(line));
+            Move::Cut(x, y)
+        }
+        3 => {
+            let (x, y) = at(drawing.point(line.earlier).place);
+            Move::Cut(x, y)
+        }
+        _ => Move::Lift(tool.clearance / 8.0),
+    })
+}
+
+/// "Each cut line gives five moves"; 22 while k < n.
+pub fn move_count(drawing: &Drawing) -> Result<usize, Refusal> {
+    test_finished(drawing)?;
+    Ok(MOVES_PER_LINE * cut_lines(drawing).count())
+}
+
+/// "the cut lines in line order"
+fn cut_lines(drawing: &Drawing) -> impl Iterator<Item = &Line> {
+    drawing.lines.iter().filter(|line| line.cut)
+}
+
+/// "Any other f32 there gives 12."
+fn test_tool(tool: Tool) -> Result<(), Refusal> {
+    let fits = |value: f32, most: f32| (1.0..=most).contains(&value) && value.fract() == 0.0;
+    if fits(tool.pitch, 80.0) && fits(tool.depth, 40.0) && fits(tool.clearance, 80.0) {
+        Ok(())
+    } else {
+        Err(Refusal::new(TOOL_NUMBER, 0))
+    }
+}
+
+/// "22 drawing or moves wanted while k < n"
+fn test_finished(drawing: &Drawing) -> Result<(), Refusal> {
+    if drawing.is_finished() {
+        Ok(())
+    } else {
+        Err(Refusal::new(UNFINISHED, 0))
+    }
+}
+
+/// "Each f32 coordinate equals written coordinate times pitch over 8, with no error": the whole
+/// product is below 2 to the 24th, so the cast and the division are exact.
+fn millimetres(drawing: &Drawing, tool: Tool, coordinate: i64) -> f32 {
+    let product = written(drawing, coordinate) * tool.pitch as i64;
+    product as f32 / 8.0
+}
+
+#[cfg(test)]
+mod tests {
+    use super::*;
+    use crate::open;
+
+    // A tool within its ranges.
+    fn tool() -> Tool {
+        Tool {
+            pitch: 80.0,
+            depth: 40.0,
+            clearance: 80.0,
+        }
+    }
+
+    // "Any other f32 there gives 12", before 22 and 23.
+    #[test]
+    fn other_tool_numbers_give_12() {
+        let bad = [
+            0.0,
+            -0.0,
+            -1.0,
+            0.5,
+            1.5,
+            1.0 + f32::EPSILON,
+            81.0,
+            1e30,
+            f32::NAN,
+            f32::INFINITY,
+            f32::NEG_INFINITY,
+            f32::MIN_POSITIVE,
+        ];
+        let drawing = open(4).unwrap();
+        for value in bad {
+            for place in 0..3 {
+                let mut tool = tool();
+                match place {
+                    0 => tool.pitch = value,
+                    1 => tool.depth = value,
+                    _ => tool.clearance = value,
+                }
+                let answer = move_at(&drawing, tool, usize::MAX);
+                assert_eq!(answer, Err(Refusal::new(12, 0)));
+            }
+        }
+        let deep = Tool {
+            depth: 41.0,
+            ..tool()
+        };
+        assert_eq!(move_at(&drawing, deep, 0), Err(Refusal::new(12, 0)));
+        assert_eq!(move_at(&drawing, tool(), 0), Err(Refusal::new(22, 0)));
+        assert_eq!(
+            move_at(&drawing, tool(), usize::MAX),
+            Err(Refusal::new(22, 0))
+        );
+        assert_eq!(move_count(&drawing), Err(Refusal::new(22, 0)));
+    }
+
+    // "pitch 1 to 80, depth 1 to 40, clearance 1 to 80": every whole number in range is taken.
+    #[test]
+    fn all_tools_in_range_are_taken() {
+        let drawing = open(3).unwrap();
+        for pitch in 1..=80u8 {
+            let tool = Tool {
+                pitch: pitch.into(),
+                depth: pitch.div_ceil(2).into(),
+                clearance: (81 - pitch).into(),
+            };
+            let unit = f32::from(pitch) / 8.0;
+            let expected = Move::Cut(2.0 * unit, unit);
+            assert_eq!(move_at(&drawing, tool, 7), Ok(expected));
+        }
+    }
+
+    // "Each cut line gives five moves: travel to its later point, plunge to minus depth, cut to the
+    // bend, cut to the earlier point, lift to clearance."
+    #[test]
+    fn moves_of_an_opened_drawing() {
+        let mut drawing = open(3).unwrap();
+        drawing.lines[1].cut = false;
+        drawing.s = 3;
+        let tool = Tool {
+            pitch: 4.0,
+            depth: 3.0,
+            clearance: 9.0,
+        };
+        let expected = [
+            Move::Travel(9.0, 0.0),
+            Move::Plunge(-0.375),
+            Move::Cut(0.0, 0.0),
+            Move::Cut(0.0, 0.0),
+            Move::Lift(1.125),
+            Move::Travel(4.5, 3.0),
+            Move::Plunge(-0.375),
+            Move::Cut(6.0, 1.5),
+            Move::Cut(9.0, 0.0),
+            Move::Lift(1.125),
+        ];
+        assert_eq!(move_count(&drawing), Ok(10));
+        for (number, &wanted) in expected.iter().enumerate() {
+            assert_eq!(move_at(&drawing, tool, number), Ok(wanted));
+        }
+        assert_eq!(move_at(&drawing, tool, 10), Err(Refusal::new(23, 0)));
+    }
+}

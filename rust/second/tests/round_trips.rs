@@ -1,0 +1,261 @@
+//! Order files to drawing files and back, sizes, output lengths, broken files.
+
+use second::generate::{all_orders, order, Order, Random, STYLES};
+use second::{draw, drawing_file, open, order_file, undraw, Refusal};
+
+/// `draw` or `undraw`.
+type Convert = fn(&[u8], &mut [u8]) -> Result<usize, Refusal>;
+
+/// Random orders of every style.
+fn random_orders(sizes: &[u16]) -> Vec<Order> {
+    let mut random = Random::new(11);
+    STYLES
+        .iter()
+        .flat_map(|&style| sizes.iter().map(move |&n| (style, n)))
+        .map(|(style, n)| order(n, style, &mut random))
+        .collect()
+}
+
+/// The drawing file of an order file, "Size: 42n - 60 bytes".
+fn drawing_of(order: &[u8], n: u16) -> Vec<u8> {
+    let mut drawing = vec![0xAA; 42 * usize::from(n) - 60];
+    assert_eq!(draw(order, &mut drawing), Ok(drawing.len()));
+    drawing
+}
+
+/// The order comes back from its drawing, byte for byte.
+fn comes_back(order: &Order) {
+    let bytes = order.bytes();
+    let drawing = drawing_of(&bytes, order.n);
+    let mut back = vec![0xAA; bytes.len()];
+    assert_eq!(undraw(&drawing, &mut back), Ok(bytes.len()));
+    assert_eq!(back, bytes);
+}
+
+// Round trips of every order of a few points.
+#[test]
+fn every_order_of_up_to_8_points_comes_back() {
+    for n in 3..=8 {
+        all_orders(n).iter().for_each(comes_back);
+    }
+}
+
+// Round trips of random orders of each style, up to 1,024 points.
+#[test]
+fn random_orders_come_back() {
+    random_orders(&[3, 4, 5, 6, 9, 14, 23, 40, 60, 150, 1024])
+        .iter()
+        .for_each(comes_back);
+}
+
+// "no accepted order file is longer than 10,238"
+#[test]
+fn sizes_of_order_files() {
+    for order in random_orders(&[3, 10, 1024]) {
+        let scale_record = if order.s == 1 { 0 } else { 4 };
+        let expected = 10 * usize::from(order.n) - 6 + scale_record;
+        assert_eq!(order.bytes().len(), expected);
+        assert!(expected <= 10238);
+    }
+}
+
+// Calls and the file of the same order give the same drawing, but for s and the first three lines.
+#[test]
+fn calls_give_the_drawing_of_the_file() {
+    for order in random_orders(&[3, 4, 12, 40, 100]) {
+        let mut called = open(order.n).unwrap();
+        for call in &order.calls {
+            called.add(call).unwrap();
+        }
+        let read = order_file::read(&order.bytes()).unwrap();
+        called.s = read.s;
+        for (line, entry) in called.lines.iter_mut().zip(order.opening) {
+            line.cut = entry < 0x8000;
+        }
+        assert_eq!(called, read);
+    }
+}
+
+// "24 output too short", last and at place 0; nothing is written, and bytes past the end stay.
+#[test]
+fn output_lengths() {
+    let order = order(12, STYLES[2], &mut Random::new(3));
+    let bytes = order.bytes();
+    let drawing = drawing_of(&bytes, order.n);
+    let calls: [(&[u8], &[u8], Convert); 2] =
+        [(&bytes, &drawing, draw), (&drawing, &bytes, undraw)];
+    for (input, expected, call) in calls {
+        for length in 0..expected.len() + 5 {
+            let mut out = vec![0xAA; length];
+            let answer = call(input, &mut out);
+            if length < expected.len() {
+                assert_eq!(answer, Err(Refusal::new(24, 0)));
+                assert!(out.iter().all(|&byte| byte == 0xAA));
+            } else {
+                assert_eq!(answer, Ok(expected.len()));
+                assert_eq!(&out[..expected.len()], expected);
+                assert!(out[expected.len()..].iter().all(|&byte| byte == 0xAA));
+            }
+        }
+        let cut_short = &input[..input.len() - 1];
+        assert_eq!(call(cut_short, &mut []).unwrap_err().number, 1);
+    }
+}
+
+// "22 drawing or moves wanted while k < n"
+#[test]
+fn unfinished_drawings_are_not_written() {
+    let drawing = open(4).unwrap();
+    assert_eq!(drawing_file::write(&drawing), Err(Refusal::new(22, 0)));
+    assert_eq!(order_file::write(&drawing), Err(Refusal::new(22, 0)));
+}
+
+/// The offsets of the records' marks, the last one that of the end record.
+fn record_places(bytes: &[u8]) -> Vec<usize> {
+    let number = |at: usize| usize::from(u16::from_be_bytes([bytes[at], bytes[at + 1]]));
+    let mut places = Vec::new();
+    let mut at = 0;
+    while at < bytes.len() {
+        places.push(at);
+        at += match &bytes[at..at + 2] {
+            [0x48, 0x44] | [0x53, 0x43] => 4,
+            [0x50, 0x54] => 4 + 2 * number(at + 2),
+            [0x44, 0x48] => 10,
+            [0x50, 0x4F] => 6,
+            [0x4C, 0x4E] => 12,
+            _ => 2,
+        };
+    }
+    places
+}
+
+// "1 file ends inside a record or before its mark", at every length.
+#[test]
+fn files_cut_short() {
+    for order in random_orders(&[3, 5, 11]) {
+        let bytes = order.bytes();
+        let drawing = drawing_of(&bytes, order.n);
+        let places = record_places(&bytes);
+        for length in 0..bytes.len() {
+            let place = *places.iter().rfind(|&&place| place <= length).unwrap();
+            let answer = order_file::read(&bytes[..length]);
+            assert_eq!(answer, Err(Refusal::new(1, place)));
+        }
+        let places = record_places(&drawing);
+        for length in 0..drawing.len() {
+            let place = *places.iter().rfind(|&&place| place <= length).unwrap();
+            let answer = drawing_file::read(&drawing[..length]);
+            assert_eq!(answer, Err(Refusal::new(1, place)));
+        }
+    }
+}
+
+// "2 wrong mark", at every record.
+#[test]
+fn wrong_marks() {
+    for order in random_orders(&[3, 7]) {
+        let bytes = order.bytes();
+        for place in record_places(&bytes) {
+            let mut wrong = bytes.clone();
+            wrong[place + 1] ^= 0x80;
+            assert_eq!(order_file::read(&wrong), Err(Refusal::new(2, place)));
+        }
+        let drawing = drawing_of(&bytes, order.n);
+        for place in record_places(&drawing) {
+            let mut wrong = drawing.clone();
+            wrong[place] ^= 0x80;
+            assert_eq!(drawing_file::read(&wrong), Err(Refusal::new(2, place)));
+        }
+    }
+}
+
+// Files with one changed byte: an accepted one is the file that the drawing is written to again.
+#[test]
+fn files_with_a_changed_byte() {
+    let mut random = Random::new(23);
+    for order in random_orders(&[3, 4, 6, 15]) {
+        let bytes = order.bytes();
+        let drawing = drawing_of(&bytes, order.n);
+        for _ in 0..2000 {
+            let mut changed = bytes.clone();
+            let at = random.below(changed.len());
+            changed[at] = random.below(256) as u8;
+            if let Ok(read) = order_file::read(&changed) {
+                assert_eq!(order_file::write(&read), Ok(changed));
+            }
+            let mut changed = drawing.clone();
+            let at = random.below(changed.len());
+            changed[at] = random.below(256) as u8;
+            if let Ok(read) = drawing_file::read(&changed) {
+                assert_eq!(drawing_file::write(&read), Ok(changed));
+            }
+        }
+    }
+}
+
+// "11: the first differing byte": coordinates, width, height and the cut flag are compared last.
+#[test]
+fn changed_coordinates_give_11() {
+    for order in random_orders(&[3, 8]) {
+        let bytes = order.bytes();
+        let drawing = drawing_of(&bytes, order.n);
+        for place in record_places(&drawing) {
+            let compared = match &drawing[place..place + 2] {
+                [0x44, 0x48] => 6..10,
+                [0x50, 0x4F] => 2..6,
+                [0x4C, 0x4E] => 6..10,
+                _ => 0..0,
+            };
+            for offset in compared {
+                let mut wrong = drawing.clone();
+                wrong[place + offset] ^= 1;
+                let expected = Err(Refusal::new(11, place + offset));
+                assert_eq!(drawing_file::read(&wrong), expected);
+            }
+        }
+    }
+}
+
+/// A line number and the later and earlier point that its record gets.
+type Change = (usize, u16, u16);
+
+/// The answer to a drawing file of four points whose line records are changed.
+fn changed_lines(changes: &[Change]) -> Result<usize, Refusal> {
+    let order = &all_orders(4)[0];
+    let mut drawing = drawing_of(&order.bytes(), 4);
+    for &(line, later, earlier) in changes {
+        let at = 34 + 12 * line + 2;
+        drawing[at..at + 2].copy_from_slice(&later.to_be_bytes());
+        drawing[at + 2..at + 4].copy_from_slice(&earlier.to_be_bytes());
+    }
+    undraw(&drawing, &mut [0; 100])
+}
+
+// "4 to 9 on each point's group of lines in turn", at "the offset where the group starts or would
+// start"; an earlier point above 32,767 is not placed.
+#[test]
+fn groups_of_lines() {
+    assert_eq!(changed_lines(&[]), Ok(34));
+    let cases: [(&[Change], u16, usize); 16] = [
+        (&[(0, 1, 1)], 4, 0),
+        (&[(0, 3, 1)], 4, 0),
+        (&[(0, 2, 0x8001)], 4, 0),
+        (&[(1, 3, 0x8001)], 4, 1),
+        (&[(1, 3, 2)], 4, 1),
+        (&[(1, 2, 1)], 4, 0),
+        (&[(2, 4, 2)], 4, 1),
+        (&[(3, 3, 1)], 4, 1),
+        (&[(3, 5, 1)], 5, 3),
+        (&[(4, 0, 3)], 5, 3),
+        (&[(3, 4, 0)], 6, 3),
+        (&[(5, 4, 0x8002)], 6, 3),
+        (&[(4, 4, 4)], 6, 3),
+        (&[(4, 4, 2)], 8, 3),
+        (&[(5, 5, 2)], 9, 3),
+        (&[(3, 4, 3), (4, 4, 2), (5, 9, 9)], 9, 3),
+    ];
+    for (changes, number, line) in cases {
+        let expected = Err(Refusal::new(number, 34 + 12 * line));
+        assert_eq!(changed_lines(changes), expected, "{changes:?}");
+    }
+}
