@@ -8,10 +8,12 @@ use lib.ListN.{length}
 use Rattle.rules.specs.declared.Answer.the-variants.{Accepted, Refused}
 use Rattle.rules.specs.declared.Refusal.the-variants.{OutOfRange, OutputShort}
 use Rattle.rules.specs.Points.{opening}
+use Rattle.rules.specs.Calls.{drawn}
 use Rattle.links.specs.Arrays.{Arrays}
 use Rattle.links.specs.Opening.{openArrays, openCounts}
 use Rattle.promise.specs.Bounds.{standing-start}
 use Rattle.promise.specs.Theorem.{demand-3}
+use Rattle.exchange.specs.Reaching.{reached-drawn}
 use Rattle.stored.specs.Opened.{sized-open, stores-open}
 use Rattle.stored.specs.Adding.{Holds}
 use Rattle.drawing.specs.declared.Drawing.{Drawing}
@@ -66,7 +68,7 @@ accepted {n} {ws} h e =
             answer = refl;
             buffer = e .buffer;
             drawing = e .holds;
-            came = record { n = n; calls = callsIn ws; low = l; high = u; is = e .holds };
+            came = record { plan = drawn n (callsIn ws); reached = reached-drawn n l u (callsIn ws); is = e .holds };
             promise = demand-3 n l u (callsIn ws);
           };
     }

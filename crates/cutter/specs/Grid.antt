@@ -1,21 +1,15 @@
 -- What a line's moves ask of a drawing: its scale is at most 8, and its points and bends lie on the grid.
 use Prim.Native.Nat.{ℕ, _<_, _≤_}
 use native.Mathlib.Omega.{arith}
-use mathlib.Core.Path.{_≡_, refl, ap, _∙_}
-use mathlib.Core.List.{List}
+use mathlib.Core.Path.{_≡_, _∙_}
 use lib.ListN.{length}
 use borrow.Author.Tests.{lt-ltb, le-leb}
-use Rattle.rules.specs.declared.Entry.{Entry}
 use Rattle.rules.specs.declared.Line.{Line}
 use Rattle.rules.specs.declared.Place.{Place}
 use Rattle.rules.specs.declared.Refusal.{Refusal}
-use Rattle.rules.specs.Refusals.{good}
-use Rattle.rules.specs.Points.{Drawing as Plan, placeOf, lineAt, opening}
+use Rattle.rules.specs.Points.{Drawing as Plan, placeOf, lineAt}
 use Rattle.rules.specs.Ports.{bendPlace}
-use Rattle.rules.specs.Adding.{addEntries}
 use Rattle.rules.specs.Lookups.{lookPoint, lookLine}
-use Rattle.promise.specs.Next.{next}
-use Rattle.promise.specs.Accepted.{accepted, after-keeps}
 use Rattle.promise.specs.Bounds.{width-most, place-most, bend-most}
 use Rattle.links.specs.declared.Counts.{Counts}
 use Rattle.links.specs.Arrays.{Arrays}
@@ -29,17 +23,9 @@ use Rattle.drawing.specs.declared.PointSeen.the-variants as Point
 use Rattle.drawing.specs.View.{Came, pointSeen, lineSeen}
 use Rattle.drawing.specs.Lines.{earlier-some, earlier-placed, later-some, later-placed}
 
--- A call keeps the scale.
-scale-next : (q : Plan) (es : List Entry) (l r : ℕ) → next q es l r .s ≡ q .s
-unfolding next
-scale-next q es l r = refl
-
--- So a drawing that came by calls has the scale 1.
-pub scale : {d : Drawing} → Came d → d .counts .s ≡ 1
-scale w = w .is .stores .s ∙ after-keeps (λ q. q .s ≡ 1) keeps (opening (w .n)) refl (w .calls)
-  where
-    keeps : (q e : Plan) (es : List Entry) → q .s ≡ 1 → addEntries q es ≡ good e → e .s ≡ 1
-    keeps q e es h a = let k = accepted q e es a in ap (λ (p : Plan). p .s) (k .is) ∙ scale-next q es (k .l) (k .r) ∙ h
+-- A drawing that came from calls or an order file has a scale from 1 to 8.
+pub scale : {d : Drawing} → Came d → (1 ≤ d .counts .s) × (d .counts .s ≤ 8)
+scale w = rw (w .is .stores .s) (w .reached .scale)
 
 module _ {q : Plan} {a : Arrays} {c : Counts} (h : Holds q a c) where
   pub point-on-grid : (p : ℕ) → 1 ≤ p → p ≤ c .k → OnGrid (placeOf q p)

@@ -1,6 +1,7 @@
 // The cutter moves of a drawing, given one at a time by number, and how many there are.
 use drawing::Drawing;
 use drawing::LineSeen;
+use drawing::Placed;
 use drawing::PointSeen;
 use rules::Place;
 use rules::Refusal;
@@ -16,6 +17,7 @@ ghost use Rattle.rules.specs.Points.{Drawing as Plan, placeOf, lineAt};
 ghost use Rattle.rules.specs.Moves.{Tool as WholeTool, lift, moveAt};
 ghost use Rattle.tool.specs.Checking.{wholeTool, toolOf, InRange};
 ghost use Rattle.drawing.specs.View.{Is, Came};
+ghost use Rattle.drawing.specs.Places.{IsPlaced};
 ghost use Rattle.cutter.specs.Numbering.{fiveOf};
 ghost use Rattle.cutter.specs.Cuts.{NthCut, cutsTo};
 ghost use Rattle.cutter.specs.Seen.{IsMove, MoveSeen, moveCount, countSeen};
@@ -76,38 +78,39 @@ fn cut_count(words: &[u16; 3072], lines: usize) -> usize
 }
 
 // The place of a placed point.
-fn place_of(d: Drawing, p: u16) -> Place
-    requires { ⌜ Came d × (1 ≤ p) × (p ≤ d .counts .k) ⌝ }
-    ensures { λ r. ⌜ ((q : Plan) → Is q d → r ≡ placeOf q p) ⌝ }
+fn place_of(v: Placed, p: u16) -> Place
+    requires { ⌜ IsPlaced v × (1 ≤ p) × (p ≤ v .drawing .counts .k) ⌝ }
+    ensures { λ r. ⌜ ((q : Plan) → Is q (v .drawing) → r ≡ placeOf q p) ⌝ }
 {
-    let PointSeen::At(a) = drawing::point(d, words::broad(p)) else {
+    let PointSeen::At(a) = drawing::point_at(v, words::broad(p)) else {
         return Place { x: 0, y: 0 };
     };
     a
 }
 
-// Move `which`, from 0, of the five of line e.
-fn move_of(d: Drawing, e: usize, which: usize, t: Numbers) -> Move
-    requires { ⌜ Came d × (e < d .counts .lines) × (which < 5) × InRange t ⌝ }
-    ensures { λ r. ⌜ ((q : Plan) → Is q d → IsMove r (getD (fiveOf q (toolOf t) (lineAt q e)) which (lift 0))) ⌝ }
+// Move `which`, from 0, of the five of line e, at the scale s.
+fn move_of(v: Placed, e: usize, which: usize, s: usize, t: Numbers) -> Move
+    requires { ⌜ IsPlaced v × (e < v .drawing .counts .lines) × (which < 5) × (s ≡ v .drawing .counts .s) × InRange t ⌝ }
+    ensures { λ r. ⌜ ((q : Plan) → Is q (v .drawing) → IsMove r (getD (fiveOf q (toolOf t) (lineAt q e)) which (lift 0))) ⌝ }
 {
-    let LineSeen::Seen(l, bend) = drawing::line(d, e) else {
+    let LineSeen::Seen(l, bend) = drawing::line_at(v, e) else {
         return Move::Lift(0.0);
     };
-    let later = place_of(d, l.later);
-    let earlier = place_of(d, l.earlier);
-    let c = d.counts;
-    tool::line_move(which, c.s, later, bend, earlier, t)
+    let later = place_of(v, l.later);
+    let earlier = place_of(v, l.earlier);
+    tool::line_move(which, s, later, bend, earlier, t)
 }
 
 // Move `number`, from 0, of the drawing's moves with this tool. Refusals in order: 12, 22, 23.
-pub fn move_at(d: Drawing, t: Tool, number: usize) -> Moved
-    requires { ⌜ Came d ⌝ }
-    ensures { λ r. ⌜ ((q : Plan) → Is q d → MoveSeen r (moveAt q (wholeTool t) number)) ⌝ }
+// It takes the time of one pass over the lines: x is settled beforehand, once for all moves.
+pub fn move_at(v: Placed, t: Tool, number: usize) -> Moved
+    requires { ⌜ IsPlaced v ⌝ }
+    ensures { λ r. ⌜ ((q : Plan) → Is q (v .drawing) → MoveSeen r (moveAt q (wholeTool t) number)) ⌝ }
 {
     let Checked::Good(numbers) = tool::check_tool(t) else {
         return Moved::Refused(Refusal::BadTool, 0);
     };
+    let d = v.drawing;
     let c = d.counts;
     if c.k < c.n {
         return Moved::Refused(Refusal::Unfinished, 0);
@@ -117,7 +120,7 @@ pub fn move_at(d: Drawing, t: Tool, number: usize) -> Moved
     if c.lines <= e {
         return Moved::Refused(Refusal::NoSuch, 0);
     }
-    Moved::Made(move_of(d, e, number % 5, numbers))
+    Moved::Made(move_of(v, e, number % 5, c.s, numbers))
 }
 
 // How many moves a finished drawing has, whatever the tool: five for each cut line.

@@ -1,14 +1,15 @@
 -- What adding leaves: the answer and the drawing of the rules, and, refused, the drawing as it was.
 use Prim.Native.Nat.{ℕ}
 use mathlib.Core.Path.{_≡_, refl, sym, _∙_}
-use mathlib.Core.List.{List, [], _∷_, _++_}
+use mathlib.Core.List.{List}
 use native.Mathlib.Omega.{arith}
 use Rattle.rules.specs.declared.Answer.the-variants.{Refused}
 use Rattle.rules.specs.declared.Refusal.{Refusal}
 use Rattle.rules.specs.Refusals.{Result, good, refused, answer}
 use Rattle.rules.specs.Points.{Drawing as Plan}
 use Rattle.rules.specs.Adding.{add}
-use Rattle.rules.specs.Calls.{left, after, drawn}
+use Rattle.rules.specs.Calls.{left}
+use Rattle.exchange.specs.Reaching.{reached-left}
 use Rattle.links.specs.declared.Added.{Added}
 use Rattle.links.specs.Arrays.{Arrays}
 use Rattle.links.specs.Storing.{judged, arraysAfter, countsAfter}
@@ -24,14 +25,9 @@ pub record AddsTo (d : Drawing) (es : List ℕ) (r : Done) : Type 0 where
   pub came : Came (r .drawing)
   pub kept : (f : Refusal) (at : ℕ) → r .answer ≡ Refused f at → r .drawing ≡ d
 
--- A drawing that came from opening and calls can be added to.
+-- A drawing that came so can be added to.
 pub ready : {d : Drawing} → Came d → Ready (arraysIn d) (d .counts)
-ready c = record { d = drawn (c .n) (c .calls); holds = c .is }
-
--- one call more
-after-one : (p : Plan) (calls : List (List ℕ)) (es : List ℕ) → after p (calls ++ (es ∷ [])) ≡ left (after p calls) (add (after p calls) es)
-after-one p [] es = refl
-after-one p (call ∷ calls) es = after-one (left p (add p call)) calls es
+ready c = record { d = c .plan; holds = c .is }
 
 -- refused, nothing changes
 kept-by : (d : Drawing) (es : List ℕ) (j : Result (Unit {0})) (f : Refusal) (at : ℕ) → answer j ≡ Refused f at →
@@ -48,14 +44,7 @@ adds {d} {es} {a} {x} c t = record { right = right; came = came; kept = kept }
     right p h = let k = called h es in (t .answer ∙ k .answers, rw (t .arrays, t .counts) (k .holds))
 
     came : Came (drawingOf a (x .counts))
-    came =
-        record {
-          n = c .n;
-          calls = c .calls ++ (es ∷ []);
-          low = c .low;
-          high = c .high;
-          is = rw (after-one _ (c .calls) es) (right (drawn (c .n) (c .calls)) (c .is) .1);
-        }
+    came = record { plan = left (c .plan) (add (c .plan) es); reached = reached-left (c .plan) (c .reached) es; is = right (c .plan) (c .is) .1 }
 
     kept : (f : Refusal) (at : ℕ) → x .answer ≡ Refused f at → drawingOf a (x .counts) ≡ d
     kept f at e = rw (t .arrays, t .counts) (kept-by d es (judged (arraysIn d) (d .counts) es) f at (sym (t .answer) ∙ e))

@@ -2,7 +2,7 @@
 use Prim.Native.Nat.{ℕ, _<_, _≤_}
 use mathlib.Core.Path.{_≡_, refl}
 use mathlib.Core.Bool.{true, false}
-use mathlib.Core.List.{[]}
+use native.Mathlib.Omega.{arith}
 use borrow.Author.Tests.{le-leb, lt-leb}
 use Rattle.rules.specs.declared.Answer.the-variants.{Accepted, Refused}
 use Rattle.rules.specs.declared.Refusal.the-variants.{OutOfRange}
@@ -13,6 +13,7 @@ use Rattle.links.specs.declared.Counts.{Counts}
 use Rattle.links.specs.Arrays.{Arrays}
 use Rattle.links.specs.Opening.{noPoints, noLines, openArrays, openCounts}
 use Rattle.promise.specs.Bounds.{standing-start}
+use Rattle.exchange.specs.Reaching.{reached-opening}
 use Rattle.stored.specs.Opened.{sized-open, stores-open}
 use Rattle.drawing.specs.declared.Drawing.{Drawing}
 use Rattle.drawing.specs.declared.Done.{Done}
@@ -36,13 +37,25 @@ blank =
     }
 
 -- the drawing that goes with what the rules give
-abbrev pub OpensAs : Result Plan → Drawing → Type 0
-OpensAs (good p) d = Is p d × Came d
-OpensAs (refused r p) d = d ≡ blank
+abbrev pub DrawingOf : Result Plan → Drawing → Type 0
+DrawingOf (good p) d = Is p d × Came d
+DrawingOf (refused r p) d = d ≡ blank
 
-pub record Opens (n : ℕ) (r : Done) : Type 0 where
-  pub answer : r .answer ≡ answer (opened n)
-  pub drawing : OpensAs (opened n) (r .drawing)
+-- r is what the rules give
+pub record Gives (o : Result Plan) (r : Done) : Type 0 where
+  pub answer : r .answer ≡ answer o
+  pub drawing : DrawingOf o (r .drawing)
+
+-- What was accepted came so.
+pub came-given : {o : Result Plan} {r : Done} → Gives o r → r .answer ≡ Accepted → Came (r .drawing)
+came-given {o} {r} g e = go o (g .answer) (g .drawing)
+  where
+    go : (o : Result Plan) → r .answer ≡ answer o → DrawingOf o (r .drawing) → Came (r .drawing)
+    go (good p) a d = d .1
+    go (refused f p) a d = absurd (let z : _≡_ {A = ℕ} 0 1 = cc in omega arith)
+
+abbrev pub Opens : ℕ → Done → Type 0
+Opens n r = Gives (opened n) r
 
 module _ (n : ℕ) {d : Drawing} (q : d ≡ blank) where
   refuses : between 3 1024 n ≡ false → Opens n (record { answer = Refused OutOfRange 0; drawing = d })
@@ -87,7 +100,7 @@ module _ (n : ℕ) (low : 3 ≤ n) (high : n ≤ 1024) where
       }
 
   pub open-came : Came (openDrawing n)
-  open-came = record { n = n; calls = []; low = low; high = high; is = open-is }
+  open-came = record { plan = opening n; reached = reached-opening n low high; is = open-is }
 
   -- Accepted.
   pub opens : {d : Drawing} → d ≡ openDrawing n → Opens n (record { answer = Accepted; drawing = d })

@@ -18,7 +18,8 @@ use Rattle.links.specs.Opening.{noPoints}
 use Rattle.stored.specs.Adding.{Holds}
 use Rattle.settling.specs.Placed.{Settleable, Settled, settleable-of, placed-at}
 use Rattle.drawing.specs.declared.PointSeen.the-variants as Point
-use Rattle.drawing.specs.View.{pointSeen}
+use Rattle.drawing.specs.declared.Placed.{Placed}
+use Rattle.drawing.specs.View.{Came, pointSeen}
 
 pub and-both : (a b : Bool) → (a && b) ≡ true → (a ≡ true) × (b ≡ true)
 and-both true b e = (refl, e)
@@ -27,6 +28,11 @@ and-both false b e = let z : false ≡ true = e in (z, cc)
 -- what the test of a point's number says
 pub range : {k : ℕ} (p : ℕ) → between 1 k p ≡ true → (1 ≤ p) × (p ≤ k)
 range {k} p e = let b = and-both (leb 1 p) (leb p k) e in (leb-true 1 p (b .0), leb-true p k (b .1))
+
+-- a drawing that came so, with its x settled
+pub record IsPlaced (v : Placed) : Type 0 where
+  pub came : Came (v .drawing)
+  pub settled : Settled (v .x) (v .drawing .next) (v .drawing .gap) (v .drawing .owner) (v .drawing .counts .k)
 
 -- The arrays of a drawing can be settled, from an array of zeros.
 pub settleable : {q : Plan} {a : Arrays} {c : Counts} → Holds q a c → Settleable noPoints (a .next) (a .gap) (a .owner) (c .k)

@@ -1,16 +1,13 @@
--- What the program's drawing is: the arrays and numbers of a drawing of the rules that came from opening and calls.
+-- What the program's drawing is: the arrays and numbers of a drawing of the rules.
 -- Here `Plan` is the drawing as the rules see it, `Drawing` the program's.
-use Prim.Native.Nat.{ℕ, _≤_}
-use mathlib.Core.Path.{_≡_}
-use mathlib.Core.List.{List}
 use Rattle.rules.specs.declared.Answer.{Answer}
 use Rattle.rules.specs.declared.Answer.the-variants.{Accepted, Refused}
 use Rattle.rules.specs.declared.Place.{Place}
 use Rattle.rules.specs.Refusals.{Result, good, refused}
 use Rattle.rules.specs.Points.{Drawing as Plan}
-use Rattle.rules.specs.Calls.{drawn}
 use Rattle.rules.specs.Lookups.{Sought, cutLine, noCutLine}
 use Rattle.rules.specs.Lookups as Rules
+use Rattle.exchange.specs.Built.{Reached}
 use Rattle.links.specs.Arrays.{Arrays, arraysOf}
 use Rattle.stored.specs.Adding.{Holds}
 use Rattle.drawing.specs.declared.Drawing.{Drawing}
@@ -28,13 +25,11 @@ arraysIn d = arraysOf (d .next) (d .gap) (d .owner) (d .ys) (d .dls) (d .drs) (d
 abbrev pub Is : Plan → Drawing → Type 0
 Is p d = Holds p (arraysIn d) (d .counts)
 
--- d came from opening and calls
+-- d came from opening and calls, or from an order file
 pub record Came (d : Drawing) : Type 0 where
-  pub n : ℕ
-  pub calls : List (List ℕ)
-  pub low : 3 ≤ n
-  pub high : n ≤ 1024
-  pub is : Is (drawn n calls) d
+  pub plan : Plan
+  pub reached : Reached plan
+  pub is : Is plan d
 
 -- look-ups: the enum's case for what the rules give
 abbrev pub pointSeen : Result Place → PointSeen

@@ -20,6 +20,7 @@ ghost use Rattle.drawing.specs.Opens.{blank, openDrawing, Opens};
 ghost use Rattle.drawing.specs.Lines.{bendFrom, lineOf, lineIn};
 ghost use Rattle.drawing.specs.Cuts.{cutTo, FirstCut};
 ghost use Rattle.drawing.specs.Adds.{AddsTo};
+ghost use Rattle.drawing.specs.Places.{IsPlaced};
 
 // A drawing as the program keeps it: boundary links and gaps (crate `links` says what each array holds).
 pub struct Drawing {
@@ -34,6 +35,12 @@ pub struct Drawing {
     pub words: [u16; 3072],
     pub later: [u16; 3072],
     pub bends: [u16; 3072],
+}
+
+// A drawing with the x of every placed point, settled once for many look-ups.
+pub struct Placed {
+    pub drawing: Drawing,
+    pub x: [u16; 1024],
 }
 
 // What a call answers, and the drawing that it returns or leaves.
@@ -60,7 +67,7 @@ pub enum CutSeen {
 }
 
 // A drawing of zeros, which goes with a refusal to open.
-fn no_drawing() -> Drawing
+pub fn no_drawing() -> Drawing
     ensures { λ r. ⌜ r ≡ blank ⌝ }
 {
     let points = [0u16; 1024];
@@ -219,6 +226,19 @@ fn settled(next: &[u16; 1024], gap: &[u16; 1024], owner: &[u16; 1024], k: usize)
     x
 }
 
+// The drawing with its x settled.
+pub fn settle(d: Drawing) -> Placed
+    requires { ⌜ Came d ⌝ }
+    ensures { λ r. ⌜ (r .drawing ≡ d) × IsPlaced r ⌝ }
+{
+    let c = d.counts;
+    let next = d.next;
+    let gap = d.gap;
+    let owner = d.owner;
+    let x = settled(&next, &gap, &owner, c.k);
+    Placed { drawing: d, x }
+}
+
 // The place of point p, from the x and the y of all.
 fn place_in(x: &[u16; 1024], ys: &[u16; 1024], p: usize) -> Place
     requires { ⌜ (length (now x) ≡ 1024) × (length (now ys) ≡ 1024) × (1 ≤ p) × (p ≤ 1024) ⌝ }
@@ -229,20 +249,26 @@ fn place_in(x: &[u16; 1024], ys: &[u16; 1024], p: usize) -> Place
 }
 
 // A point's place.
-pub fn point(d: Drawing, p: usize) -> PointSeen
-    requires { ⌜ Came d ⌝ }
-    ensures { λ r. ⌜ ((q : Plan) → Is q d → r ≡ pointSeen (lookPoint q p)) ⌝ }
+pub fn point_at(v: Placed, p: usize) -> PointSeen
+    requires { ⌜ IsPlaced v ⌝ }
+    ensures { λ r. ⌜ ((q : Plan) → Is q (v .drawing) → r ≡ pointSeen (lookPoint q p)) ⌝ }
 {
+    let d = v.drawing;
     let k = d.counts.k;
     if !is_point(k, p) {
         return PointSeen::Refused(Refusal::NoSuch, 0);
     }
-    let next = d.next;
-    let gap = d.gap;
-    let owner = d.owner;
-    let x = settled(&next, &gap, &owner, k);
+    let x = v.x;
     let ys = d.ys;
     PointSeen::At(place_in(&x, &ys, p))
+}
+
+// The same, where one look-up is enough.
+pub fn point(d: Drawing, p: usize) -> PointSeen
+    requires { ⌜ Came d ⌝ }
+    ensures { λ r. ⌜ ((q : Plan) → Is q d → r ≡ pointSeen (lookPoint q p)) ⌝ }
+{
+    point_at(settle(d), p)
 }
 
 // A bend, read from its number.
@@ -282,10 +308,11 @@ fn line_in(words: &[u16; 3072], later: &[u16; 3072], bends: &[u16; 3072], e: usi
 }
 
 // A line with its ends, bend and cut flag, and where its bend lies.
-pub fn line(d: Drawing, e: usize) -> LineSeen
-    requires { ⌜ Came d ⌝ }
-    ensures { λ r. ⌜ ((q : Plan) → Is q d → r ≡ lineSeen (lookLine q e)) ⌝ }
+pub fn line_at(v: Placed, e: usize) -> LineSeen
+    requires { ⌜ IsPlaced v ⌝ }
+    ensures { λ r. ⌜ ((q : Plan) → Is q (v .drawing) → r ≡ lineSeen (lookLine q e)) ⌝ }
 {
+    let d = v.drawing;
     let c = d.counts;
     if c.lines <= e {
         return LineSeen::Refused(Refusal::NoSuch, 0);
@@ -294,19 +321,24 @@ pub fn line(d: Drawing, e: usize) -> LineSeen
     let later = d.later;
     let bends = d.bends;
     let l = line_in(&words, &later, &bends, e);
-    let next = d.next;
-    let gap = d.gap;
-    let owner = d.owner;
-    let x = settled(&next, &gap, &owner, c.k);
+    let x = v.x;
     let ys = d.ys;
     let dls = d.dls;
     let drs = d.drs;
     let hs = d.hs;
-    let v = words::broad(l.later);
-    let u = words::broad(l.earlier);
+    let to = words::broad(l.later);
+    let from = words::broad(l.earlier);
     let b = l.bend;
-    let at = settling::bend_of(&x, &ys, &dls, &drs, &hs, v, u, b);
+    let at = settling::bend_of(&x, &ys, &dls, &drs, &hs, to, from, b);
     LineSeen::Seen(l, at)
+}
+
+// The same, where one look-up is enough.
+pub fn line(d: Drawing, e: usize) -> LineSeen
+    requires { ⌜ Came d ⌝ }
+    ensures { λ r. ⌜ ((q : Plan) → Is q d → r ≡ lineSeen (lookLine q e)) ⌝ }
+{
+    line_at(settle(d), e)
 }
 
 // A line with this entry and this later point is cut and ends at p.

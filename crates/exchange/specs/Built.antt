@@ -14,8 +14,8 @@ pub data Built (n s : ℕ) (second third : List Entry) : List (List Entry) → D
   begun : pointsOf second ≡ 1 ∷ [] → pointsOf third ≡ 1 ∷ 2 ∷ [] → Built n s second third [] (startWith n s second third)
   added : {ess : List (List Entry)} {d e : Drawing} (es : List Entry) → Built n s second third ess d → addEntries d es ≡ good e → Built n s second third (snoc ess es) e
 
--- a finished drawing that was built so, for n from 3 to 1,024 and a scale from 1 to 8
-pub record Whole (d : Drawing) : Type 0 where
+-- a drawing that was built so, for n from 3 to 1,024 and a scale from 1 to 8: what opening and calls give, and what an order file gives
+pub record Reached (d : Drawing) : Type 0 where
   pub second : List Entry
   pub third : List Entry
   pub rest : List (List Entry)
@@ -23,6 +23,10 @@ pub record Whole (d : Drawing) : Type 0 where
   pub low : 3 ≤ d .n
   pub high : d .n ≤ 1024
   pub scale : (1 ≤ d .s) × (d .s ≤ 8)
+
+-- and that is finished
+pub record Whole (d : Drawing) : Type 0 where
+  pub reached : Reached d
   pub full : d .k ≡ d .n
 
 -- a list of bytes

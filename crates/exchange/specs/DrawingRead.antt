@@ -1,6 +1,6 @@
 -- DEMAND 2, drawing files: reading the drawing file of a finished drawing gives the drawing back, and what is read is such a file.
 use Prim.Native.Nat.{ℕ, zero, suc, pred, _+_, _-_, _*_, _<_, _≤_}
-use mathlib.Core.Path.{_≡_, refl, ap, ap₂, sym, _∙_, subst, subst₂}
+use mathlib.Core.Path.{_≡_, refl, ap, ap₂, sym, _∙_, subst}
 use mathlib.Core.Bool.{Bool, true, false, not, _&&_, false≢true}
 use mathlib.Core.List.{List, [], _∷_, _++_}
 use native.Mathlib.Nat.{mul-le-mul}
@@ -27,7 +27,8 @@ use Rattle.promise.specs.Within.{counted}
 use Rattle.exchange.specs.Built.{Built, begun, added, Whole, Bytes}
 use Rattle.exchange.specs.Results.{never-good, bound, binds-to, tested, goes-to, followed, same-value}
 use Rattle.exchange.specs.Numbers.{Words, AllWords, words-nil, words-cons, bytes-append, bytes-words}
-use Rattle.exchange.specs.Groups.{writtenAll, AllFit, foundAll, several-back, length-all, linesWords, lines-are, lines-fit, length-lines, lines-read, grown, counts, judge-built, BuiltSo, judged-built}
+use Rattle.exchange.specs.Entries.{whole-so}
+use Rattle.exchange.specs.Groups.{writtenAll, AllFit, foundAll, several-back, length-all, linesWords, lines-are, lines-fit, length-lines, lines-read, grown, counts, judge-built, judged-built}
 
 -- ---- the point records of a drawing
 
@@ -83,9 +84,9 @@ pub record Sizes (d : Drawing) : Type 0 where
 -- a finished drawing has n points and 3 n - 6 lines
 pub sizes : (d : Drawing) → Whole d → Sizes d
 sizes d w =
-    let t = standing (w .built) (w .low) (w .high) in
+    let t = standing (w .reached .built) (w .reached .low) (w .reached .high) in
     let c = counted (t .sound) in
-    let b = three-left (w .built) (w .low) (w .high) (w .full) in
+    let b = three-left (w .reached .built) (w .reached .low) (w .reached .high) (w .full) in
     record { xs = t .sound .sized .xs ∙ w .full; ys = t .sound .sized .ys ∙ w .full; lines = omega (arith, c, b, w .full) }
 
 -- ---- the whole file
@@ -153,29 +154,14 @@ drawing-written d w =
     let nl : 3 * d .n - 6 ≡ length lw = omega (arith, z .lines, length-lines d (d .lines)) in
     let lines = ap (λ (c : ℕ). several c lineShape (record { offset = o′; bytes = writtenAll lineShape lw ++ end })) nl ∙
     several-back lineShape o′ lw end (lines-fit d (d .lines)) in
-    let c = counts (d .n) (d .s) (w .second) (w .third) (w .built) in
-    let judged = judge-built (w .built) (omega (arith, c .points, w .full)) o″ fs (lines-read d o′ (d .lines) end) in
+    let c = counts (d .n) (d .s) (w .reached .second) (w .reached .third) (w .reached .built) in
+    let judged = judge-built (w .reached .built) (omega (arith, c .points, w .full)) o″ fs (lines-read d o′ (d .lines) end) in
     binds-to _ _ _ _ head
-    (goes-to _ _ _ _ _ (range-good (d .n) (d .s) (w .low) (w .high) (w .scale .0) (w .scale .1))
+    (goes-to _ _ _ _ _ (range-good (d .n) (d .s) (w .reached .low) (w .reached .high) (w .reached .scale .0) (w .reached .scale .1))
     (binds-to _ _ _ _ points
     (binds-to _ _ _ _ lines
     (binds-to _ _ _ _ judged
     (rw (compare-same 0 bs))))))
-
--- a drawing built for n points from n - 3 lists of entries is finished
-whole-of : (n s : ℕ) (d : Drawing) → BuiltSo n s d → (3 ≤ n) × (n ≤ 1024) × (1 ≤ s) × (s ≤ 8) → Whole d
-whole-of n s d t h =
-    let c = counts n s (t .second) (t .third) (t .built) in
-    record {
-      second = t .second;
-      third = t .third;
-      rest = t .rest;
-      built = subst₂ (λ (a b : ℕ). Built a b (t .second) (t .third) (t .rest) d) (sym (c .same-n)) (sym (c .same-s)) (t .built);
-      low = omega (arith, c .same-n);
-      high = omega (arith, c .same-n);
-      scale = (omega (arith, c .same-s), omega (arith, c .same-s));
-      full = omega (arith, c .same-n, c .points, t .many);
-    }
 
 -- what is known of a drawing is known of an equal one
 taken : (b : List ℕ) (e d : Drawing) → Whole e → b ≡ drawingBytes e → e ≡ d → Whole d × (b ≡ drawingBytes d)
@@ -195,7 +181,9 @@ drawing-read b d h =
     let judged = bound (judgeLines n s (lines .value .next .offset) (lines .value .all)) _ d (end .last) in
     let e = judged .value in
     let same = followed (compareBytes 0 b (drawingBytes e)) (good e) d (judged .last) in
-    taken b e d (whole-of n s e (judged-built n s (lines .value .next .offset) (lines .value .all) e (judged .first)) (good-range n s (range .passed)))
+    let r = good-range n s (range .passed) in
+    let t = judged-built n s (lines .value .next .offset) (lines .value .all) e (judged .first) in
+    taken b e d (whole-so (r .0, r .1) (r .2, r .3) (t .built) (t .many))
     (compare-equal 0 b (drawingBytes e) (same .value) (same .first))
     (same-value e d (same .last))
 
@@ -235,7 +223,7 @@ highest-most (y ∷ ys) b g = omega (arith, g 0 (omega arith), highest-most ys b
 -- a finished drawing's numbers are so
 pub small : (d : Drawing) → Whole d → Small d
 small d w =
-    let t = standing (w .built) (w .low) (w .high) in
+    let t = standing (w .reached .built) (w .reached .low) (w .reached .high) in
     let z = sizes d w in
     let wide = width-most d t in
     let place : (i : ℕ) → i < d .n → (getD (d .xs) i 0 ≤ W d) × (2 * getD (d .ys) i 0 + 2 ≤ W d) = λ i k. place-most d t (suc i) (omega arith) (omega (arith, w .full)) in
@@ -250,14 +238,14 @@ small d w =
     }
   where
     scaled : {a : ℕ} → a ≤ 5111 → d .s * a ≤ 40888
-    scaled h = mul-le-mul (w .scale .1) h
+    scaled h = mul-le-mul (w .reached .scale .1) h
 
     up : {a k n : ℕ} → pred a < k → k ≡ n → a ≤ n
     up h e = omega arith
 
 -- the numbers of the header
 pub head-words : (d : Drawing) → Whole d → Words (headWords d)
-head-words d w = let t = small d w in words-cons (omega (arith, w .high)) (words-cons (omega (arith, w .scale)) (words-cons (omega (arith, t .width)) (words-cons (omega (arith, t .height)) words-nil)))
+head-words d w = let t = small d w in words-cons (omega (arith, w .reached .high)) (words-cons (omega (arith, w .reached .scale)) (words-cons (omega (arith, t .width)) (words-cons (omega (arith, t .height)) words-nil)))
 
 -- the numbers of point records, over plain lists
 points-words : (s : ℕ) (xs ys : List ℕ) → ((i : ℕ) → i < length xs → s * getD xs i 0 ≤ 40888) → ((i : ℕ) → i < length ys → s * getD ys i 0 ≤ 40888) → AllWords (pointsWords s xs ys)
@@ -294,7 +282,7 @@ line-words d w =
 
     one : Small d → (e : ℕ) → IsLine d e → Words (lineWords (d .s) (lineAt d e) (bendPlace d (lineAt d e)))
     one t e k =
-        let n : d .n ≤ 40888 = omega (arith, w .high) in
+        let n : d .n ≤ 40888 = omega (arith, w .reached .high) in
         words-cons (word (t .ends e k .0) n) (words-cons (word (t .ends e k .1) n) (words-cons (omega (arith, t .bends e k)) (words-cons (omega (arith, t .bends e k)) (words-cons (flag-word (lineAt d e .cut)) words-nil))))
 
 -- ---- so the file is a list of bytes

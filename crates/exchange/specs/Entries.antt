@@ -1,6 +1,6 @@
 -- The lines of a built drawing give its entries back: those of point p are the lines whose later point is p.
-use Prim.Native.Nat.{ℕ, zero, suc, pred, _+_, _<_}
-use mathlib.Core.Path.{_≡_, refl, ap, sym, _∙_}
+use Prim.Native.Nat.{ℕ, zero, suc, pred, _+_, _-_, _<_, _≤_}
+use mathlib.Core.Path.{_≡_, refl, ap, sym, subst₂, _∙_}
 use mathlib.Core.Bool.{Bool, true, false}
 use mathlib.Core.List.{List, [], _∷_, _++_, map, append-nil}
 use native.Mathlib.Omega.{arith}
@@ -19,7 +19,7 @@ use Rattle.rules.specs.Adding.{addEntries, newLines, pointsOf}
 use Rattle.rules.specs.OrderFile.{entriesOf, startWith, cutAt}
 use Rattle.promise.specs.Next.{next}
 use Rattle.promise.specs.Accepted.{accepted}
-use Rattle.exchange.specs.Built.{Built, begun, added}
+use Rattle.exchange.specs.Built.{Built, begun, added, Reached, Whole}
 
 -- ---- lists
 
@@ -190,3 +190,21 @@ listed-added n s second third rest d e es t h =
 pub listed : {n s : ℕ} {second third : List Entry} {rest : List (List Entry)} {d : Drawing} → Built n s second third rest d → Listed n s second third rest d
 listed {n} {s} {second} {third} (begun a b) = listed-start n s second third a b
 listed {n} {s} {second} {third} (added {ess = ess} {d = d} {e = e} es b h) = listed-added n s second third ess d e es (listed b) h
+
+-- A drawing built for n points at the scale s is reached, and with entries for all n points it is whole.
+module _ {n s : ℕ} {second third : List Entry} {rest : List (List Entry)} {d : Drawing} (range : (3 ≤ n) × (n ≤ 1024)) (scale : (1 ≤ s) × (s ≤ 8)) (built : Built n s second third rest d) where
+  pub reached-so : Reached d
+  reached-so =
+      let t = listed built in
+      record {
+        second = second;
+        third = third;
+        rest = rest;
+        built = subst₂ (λ (n s : ℕ). Built n s second third rest d) (sym (t .is-n)) (sym (t .is-s)) built;
+        low = rw (t .is-n) (range .0);
+        high = rw (t .is-n) (range .1);
+        scale = rw (t .is-s) scale;
+      }
+
+  pub whole-so : length rest ≡ n - 3 → Whole d
+  whole-so many = let t = listed built in record { reached = reached-so; full = omega (arith, t .is-k, t .is-n, range .0) }

@@ -2,6 +2,7 @@ pub mod Built
 pub mod Numbers
 pub mod Results
 pub mod Entries
+pub mod Reaching
 pub mod Replay
 pub mod RecordRead
 pub mod OrderWrite

@@ -51,10 +51,10 @@ scale-bytes s h = go (eqb s 1)
 
 pub order-bytes : (d : Drawing) → Whole d → Bytes (writeOrder d)
 order-bytes d w =
-    let r = replayed (w .low) (w .high) (w .built) in
-    rw (write-built (w .built) (w .full))
-    (bytes-append (written orderHead (d .n ∷ [])) (bytes-words (0x4844 ∷ d .n ∷ []) (words-cons (omega arith) (words-cons (omega (arith, w .high)) words-nil)))
-    (bytes-append (orderScale (d .s)) (scale-bytes (d .s) (w .scale .1))
+    let r = replayed (w .reached .low) (w .reached .high) (w .reached .built) in
+    rw (write-built (w .reached .built) (w .full))
+    (bytes-append (written orderHead (d .n ∷ [])) (bytes-words (0x4844 ∷ d .n ∷ []) (words-cons (omega arith) (words-cons (omega (arith, w .reached .high)) words-nil)))
+    (bytes-append (orderScale (d .s)) (scale-bytes (d .s) (w .reached .scale .1))
     (bytes-append (pointRecord []) (record-bytes [] (record { fits = λ i b. absurd (omega arith); few = omega arith }))
-    (bytes-append (pointRecord (w .second)) (record-bytes (w .second) (fitting-second (w .second) (r .second-points)))
-    (bytes-append (pointRecord (w .third)) (record-bytes (w .third) (fitting-third (w .third) (r .third-points))) (rest-bytes (r .replays)))))))
+    (bytes-append (pointRecord (w .reached .second)) (record-bytes (w .reached .second) (fitting-second (w .reached .second) (r .second-points)))
+    (bytes-append (pointRecord (w .reached .third)) (record-bytes (w .reached .third) (fitting-third (w .reached .third) (r .third-points))) (rest-bytes (r .replays)))))))

@@ -19,7 +19,7 @@ use Rattle.rules.specs.OrderFile.{Scaled, givenScale, readScale, orderScale, st
 use Rattle.rules.specs.RoundTrip.{word-back}
 use Rattle.exchange.specs.Built.{Built, begun, added, Whole, Bytes}
 use Rattle.exchange.specs.Results.{same-value, bound, followed, tested, passes, placed-good}
-use Rattle.exchange.specs.Entries.{every, listed}
+use Rattle.exchange.specs.Entries.{every, listed, whole-so}
 use Rattle.exchange.specs.Numbers.{Words}
 use Rattle.exchange.specs.RecordRead.{single, reread}
 use Rattle.exchange.specs.OrderWrite.{pointRecord, pointRecords, write-built}
@@ -212,16 +212,7 @@ file-read : (n s : ℕ) (at : Cursor) (o : List ℕ) (d : Drawing) → (3 ≤ n)
 file-read n s at o d bn bs p e =
     let t = listed (p .built) in
     let full : d .k ≡ d .n = omega (arith, t .is-k, t .is-n, p .count, bn .0) in (
-      record {
-        second = p .second;
-        third = p .third;
-        rest = p .rest;
-        built = subst₂ (λ (n s : ℕ). Built n s (p .second) (p .third) (p .rest) d) (sym (t .is-n)) (sym (t .is-s)) (p .built);
-        low = rw (t .is-n) (bn .0);
-        high = rw (t .is-n) (bn .1);
-        scale = rw (t .is-s) bs;
-        full = full;
-      },
+      whole-so bn bs (p .built) (p .count),
       write-built (p .built) full ∙ ap (λ (l : List ℕ). written orderHead (n ∷ []) ++ (orderScale s ++ l)) (sym (p .bytes)) ∙ sym e,
     )
 

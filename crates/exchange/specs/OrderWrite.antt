@@ -136,15 +136,15 @@ scale-back s low high o es rest = go (eqb s 1) refl
 pub order-written : (d : Drawing) → Whole d → readOrder (writeOrder d) ≡ good d
 unfolding readOrder
 order-written d h =
-    let t = listed (h .built) in
-    let r = replayed (h .low) (h .high) (h .built) in
-    let count : d .n ≡ 3 + length (h .rest) = omega (arith, h .full, t .is-k) in
-    let points = pointRecords (every (h .second) (h .third) (h .rest)) in
-    let inside : not (between 3 1024 (d .n)) ≡ false = rw (le-leb 3 (d .n) (h .low), le-leb (d .n) 1024 (h .high)) in
-    let c = scale-back (d .s) (h .scale .0) (h .scale .1) 4 [] (pointRecords (h .second ∷ h .third ∷ h .rest)) in
-    rw (write-built (h .built) (h .full))
-    (binds (readRecord orderHead (record { offset = 0; bytes = orderBytes (d .n) (d .s) (every (h .second) (h .third) (h .rest)) })) _ _
+    let t = listed (h .reached .built) in
+    let r = replayed (h .reached .low) (h .reached .high) (h .reached .built) in
+    let count : d .n ≡ 3 + length (h .reached .rest) = omega (arith, h .full, t .is-k) in
+    let points = pointRecords (every (h .reached .second) (h .reached .third) (h .reached .rest)) in
+    let inside : not (between 3 1024 (d .n)) ≡ false = rw (le-leb 3 (d .n) (h .reached .low), le-leb (d .n) 1024 (h .reached .high)) in
+    let c = scale-back (d .s) (h .reached .scale .0) (h .reached .scale .1) 4 [] (pointRecords (h .reached .second ∷ h .reached .third ∷ h .reached .rest)) in
+    rw (write-built (h .reached .built) (h .full))
+    (binds (readRecord orderHead (record { offset = 0; bytes = orderBytes (d .n) (d .s) (every (h .reached .second) (h .reached .third) (h .reached .rest)) })) _ _
     (record-back orderHead 0 (d .n ∷ []) (orderScale (d .s) ++ points) refl) ∙
     goes _ OutOfRange 0 _ inside ∙
     binds (readScale (record { offset = 4; bytes = orderScale (d .s) ++ points })) _ _ (c .read) ∙
-    points-back (d .n) (d .s) (h .second) (h .third) (h .rest) d r count (c .next))
+    points-back (d .n) (d .s) (h .reached .second) (h .reached .third) (h .reached .rest) d r count (c .next))

@@ -16,7 +16,7 @@ use Rattle.rules.specs.Records.{Cursor, first, readRecord, readEnd, marked, fro
 use Rattle.rules.specs.OrderFile.{Scaled, givenScale, readScale, entriesIn, startWith, readRest, readPoints, readOrder}
 use Rattle.exchange.specs.Built.{Built, begun, added, Whole}
 use Rattle.exchange.specs.Results.{bound, followed, tested, same-value, placed-good}
-use Rattle.exchange.specs.Entries.{listed}
+use Rattle.exchange.specs.Entries.{whole-so}
 use Rattle.exchange.specs.OrderRead.{start-read, between-is}
 use Rattle.exchange.specs.Groups.{BuiltSo}
 
@@ -65,21 +65,7 @@ scale-range at c h = go (marked scaleShape at) h
     go true q = given-range at c q
     go false q = subst (λ (c : Scaled). (1 ≤ c .s) × (c .s ≤ 8)) (same-value _ c q) (omega arith, omega arith)
 
--- a drawing that was built for n points at scale s, with n - 3 calls, is whole
-pub whole-so : (n s : ℕ) (d : Drawing) → (3 ≤ n) × (n ≤ 1024) → (1 ≤ s) × (s ≤ 8) → BuiltSo n s d → Whole d
-whole-so n s d bn bs p =
-    let t = listed (p .built) in
-    record {
-      second = p .second;
-      third = p .third;
-      rest = p .rest;
-      built = subst₂ (λ (n s : ℕ). Built n s (p .second) (p .third) (p .rest) d) (sym (t .is-n)) (sym (t .is-s)) (p .built);
-      low = rw (t .is-n) (bn .0);
-      high = rw (t .is-n) (bn .1);
-      scale = rw (t .is-s) bs;
-      full = omega (arith, t .is-k, t .is-n, p .many, bn .0);
-    }
-
+-- THE DRAWING OF AN ACCEPTED ORDER FILE IS WHOLE.
 pub whole-read : (o : List ℕ) (d : Drawing) → readOrder o ≡ good d → Whole d
 unfolding readOrder
 whole-read o d h =
@@ -87,4 +73,5 @@ whole-read o d h =
     let n = first (f .value) in
     let g = tested (not (between 3 1024 n)) OutOfRange 0 _ d (f .last) in
     let c = bound (readScale (f .value .next)) (λ c. readPoints n (c .s) (c .next)) d (g .last) in
-    whole-so n (c .value .s) d (between-is 3 1024 n (not-false _ (g .passed))) (scale-range (f .value .next) (c .value) (c .first)) (points-built n (c .value .s) (c .value .next) d (c .last))
+    let p = points-built n (c .value .s) (c .value .next) d (c .last) in
+    whole-so (between-is 3 1024 n (not-false _ (g .passed))) (scale-range (f .value .next) (c .value) (c .first)) (p .built) (p .many)

@@ -1,12 +1,12 @@
-// Prints the cutter moves of document 01's K4 (n = 5, add 1,3, then 1,4,3,2) with two tools, one line a move, in eighths of a millimetre.
-// A drawing that came from calls has scale 1. Coordinates are written coordinate times scale times pitch over 8, so the first tool's pitch of 80 gives those of scale 8 with pitch 10.
+// Prints the cutter moves of document 01's K4 (n = 5, add 1,3, then 1,4,3,2), one line a move, in eighths of a millimetre: drawn by calls with one tool, and from its order file at scale 8 with another.
 use cutter::Counted;
 use cutter::Moved;
-use drawing::Drawing;
+use drawing::Placed;
 use libc::STDOUT_FILENO;
+use rules::Answer;
 use tool::Move;
 use tool::Tool;
-ghost use Rattle.drawing.specs.View.{Came};
+ghost use Rattle.drawing.specs.Places.{IsPlaced};
 
 // x in eighths; the fraction, if there were one, is dropped.
 fn eighths(x: f32) -> u64 {
@@ -46,10 +46,10 @@ fn print_move(m: Move) {
 }
 
 // Move `number`, or why there is none.
-fn print_at(d: Drawing, t: Tool, number: usize)
-    requires { ⌜ Came d ⌝ }
+fn print_at(v: Placed, t: Tool, number: usize)
+    requires { ⌜ IsPlaced v ⌝ }
 {
-    match cutter::move_at(d, t, number) {
+    match cutter::move_at(v, t, number) {
         Moved::Made(m) => print_move(m),
         Moved::Refused(r, _) => {
             io::write_all(STDOUT_FILENO, b"refused ");
@@ -60,37 +60,96 @@ fn print_at(d: Drawing, t: Tool, number: usize)
 }
 
 // All moves with a tool, and what the number past them gives.
-fn print_all(d: Drawing, t: Tool)
-    requires { ⌜ Came d ⌝ }
+fn print_all(v: Placed, t: Tool)
+    requires { ⌜ IsPlaced v ⌝ }
 {
-    let Counted::Moves(n) = cutter::move_count(d) else {
+    let Counted::Moves(n) = cutter::move_count(v.drawing) else {
         return;
     };
     for number in 0..n {
-        print_at(d, t, number);
+        print_at(v, t, number);
     }
-    print_at(d, t, n);
+    print_at(v, t, n);
+}
+
+// The moves of an order file's drawing.
+fn print_order(order: &[u8], t: Tool) {
+    let done = panel::drawing_of(order);
+    let d = done.drawing;
+    let answer = done.answer;
+    let Answer::Accepted = answer else {
+        return;
+    };
+    print_all(drawing::settle(d), t);
 }
 
 fn main() {
     let opened = drawing::open(5);
     let four = drawing::add(opened.drawing, &[1u16, 3]);
     let five = drawing::add(four.drawing, &[1u16, 4, 3, 2]);
-    let d = five.drawing;
     print_all(
-        d,
-        Tool {
-            pitch: 80.0,
-            depth: 40.0,
-            clearance: 1.0,
-        },
-    );
-    print_all(
-        d,
+        drawing::settle(five.drawing),
         Tool {
             pitch: 3.0,
             depth: 1.0,
             clearance: 80.0,
+        },
+    );
+    print_order(
+        &[
+            0x48u8,
+            0x44,
+            0,
+            5,
+            0x53,
+            0x43,
+            0,
+            8,
+            0x50,
+            0x54,
+            0,
+            0,
+            0x50,
+            0x54,
+            0,
+            1,
+            0,
+            1,
+            0x50,
+            0x54,
+            0,
+            2,
+            0,
+            1,
+            0,
+            2,
+            0x50,
+            0x54,
+            0,
+            2,
+            0,
+            1,
+            0,
+            3,
+            0x50,
+            0x54,
+            0,
+            4,
+            0,
+            1,
+            0,
+            4,
+            0,
+            3,
+            0,
+            2,
+            0x45,
+            0x4E,
+        ],
+        Tool {
+            pitch: 80.0,
+            depth: 40.0,
+            clearance: 1.0,
         },
     );
 }

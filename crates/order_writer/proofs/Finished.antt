@@ -34,9 +34,9 @@ parts {words = words} {later} {c} h =
     let t = h .stored in
     let points = pointsWords words later (c .lines) (c .n) 1 0 in
     record {
-      n = omega (arith, t .n, w .high);
-      s = omega (arith, t .s, w .scale .1);
-      lines = omega (arith, t .lines, lines-most (h .d) (replayed (w .low) (w .high) (w .built) .standing));
+      n = omega (arith, t .n, w .reached .high);
+      s = omega (arith, t .s, w .reached .scale .1);
+      lines = omega (arith, t .lines, lines-most (h .d) (replayed (w .reached .low) (w .reached .high) (w .reached .built) .standing));
       room = omega (arith, h .room, length-order w t, length-append (headWords (c .n) (c .s)) (points ++ (0x454E ∷ [])), length-append points (0x454E ∷ []));
     }
 

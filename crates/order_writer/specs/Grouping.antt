@@ -179,7 +179,7 @@ pub order-is : {d : Drawing} {words later : List ℕ} {c : Counts} → Whole d �
 unfolding writeOrder
 order-is {d} {words} {later} {c} h t =
     let stored : Kept words later 0 (d .lines) = kept words later 0 (d .lines) (record { later = 0; earlier = 0; bend = Straight; cut = false }) (λ i b. rw (zero-add i) (t .later i b)) (λ i b. rw (zero-add i) (t .entry i b)) in
-    let up = from-rising 1 (d .k) (d .lines) (rising (h .built)) in
+    let up = from-rising 1 (d .k) (d .lines) (rising (h .reached .built)) in
     let points = pointsWords words later (c .lines) (c .n) 1 0 in
     let points-is : bytesOf points ≡ orderPoints (c .n) 1 (d .lines) =
     points-are words later (c .n) 1 0 (c .lines) (d .lines) (d .lines) (omega (arith, t .lines)) stored up (λ q b. refl) in

@@ -41,8 +41,8 @@ three-left (added {d = d} {e = e} es b h) low high full =
 -- and 3 n - 6 lines
 pub lines-are : (d : Drawing) → Whole d → length (d .lines) + 6 ≡ 3 * d .n
 lines-are d w =
-    let t = replayed (w .low) (w .high) (w .built) .standing in
-    omega (arith, counted (t .sound), three-left (w .built) (w .low) (w .high) (w .full), w .full)
+    let t = replayed (w .reached .low) (w .reached .high) (w .reached .built) .standing in
+    omega (arith, counted (t .sound), three-left (w .reached .built) (w .reached .low) (w .reached .high) (w .full), w .full)
 
 -- ---- how many entries
 
@@ -95,7 +95,7 @@ length-scale s = go (eqb s 1)
 -- THE ORDER FILE of a finished drawing has 10 n - 6 bytes, and the scale's
 pub order-size : (d : Drawing) → Whole d → length (writeOrder d) + 6 ≡ 10 * d .n + scaleBytes (d .s)
 order-size d w =
-    let ess = every (w .second) (w .third) (w .rest) in
-    let t = listed (w .built) in
+    let ess = every (w .reached .second) (w .reached .third) (w .reached .rest) in
+    let t = listed (w .reached .built) in
     let a = length-append (orderScale (d .s)) (pointRecords ess) in
-    omega (arith, ap length (write-built (w .built) (w .full)), a, length-scale (d .s), length-records ess, total-lines (w .built), lines-are d w, t .is-k, w .full)
+    omega (arith, ap length (write-built (w .reached .built) (w .full)), a, length-scale (d .s), length-records ess, total-lines (w .reached .built), lines-are d w, t .is-k, w .full)

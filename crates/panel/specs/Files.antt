@@ -20,12 +20,15 @@ use Rattle.exchange.specs.DrawingRead.{length-drawing}
 use Rattle.order_writer.specs.Writing.{LinesStored, OrderWritable}
 use Rattle.panel.specs.declared.Written.{Written}
 use Rattle.panel.specs.Outputs.{Ended, Lined, Wrote}
-use Rattle.panel.specs.Wholes.{need-is}
+
+-- the length of a whole drawing's file, from the stored numbers
+pub need-is : {d : Plan} {a : Arrays} {c : Counts} → Whole d → Holds d a c → 42 * c .n - 60 ≡ length (drawingBytes d)
+need-is {d} w h = omega (arith, length-drawing d w, h .stores .n)
 
 -- with its settled x a whole drawing is finished
 pub finish : {d : Plan} {a : Arrays} {c : Counts} {x : List ℕ} → Whole d → Holds d a c → Settled x (a .next) (a .gap) (a .owner) (c .k) →
     Finished d (listsOf x (a .ys) (a .dls) (a .drs) (a .hs) (a .words) (a .later) (a .bends)) c
-finish {d} w h s = finished-of h (s .long) (s .right d (h .standing .sound) (placed-at (h .stores .k) (h .stores))) (w .scale) (w .full)
+finish {d} w h s = finished-of h (s .long) (s .right d (h .standing .sound) (placed-at (h .stores .k) (h .stores))) (w .reached .scale) (w .full)
 
 -- so it can be written where there is room
 pub writable : {a : Arrays} {c : Counts} {x out : List ℕ} → Ended a c → Settled x (a .next) (a .gap) (a .owner) (c .k) → 42 * c .n - 60 ≤ length out →
@@ -41,5 +44,5 @@ pub begins : {d : Plan} {a : Arrays} {c : Counts} {before after : List ℕ} {r :
     take (42 * c .n - 60) after ≡ drawingBytes d
 begins {d} {before = before} w h long t =
     let n = need-is w h in
-    let room : length (drawingBytes d) ≤ length before = omega (arith, length-drawing d w, w .high, long) in
+    let room : length (drawingBytes d) ≤ length before = omega (arith, length-drawing d w, w .reached .high, long) in
     rw (n, t .bytes, le-ltb (length before) (length (drawingBytes d)) room, take-append-seam (drawingBytes d) (drop (length (drawingBytes d)) before))

@@ -1,7 +1,6 @@
 pub mod Outputs
-pub mod Wholes
 pub mod Files
 pub mod Reading
 pub mod Comparing
 pub mod Undrawing
-pub mod Called
+pub mod Finishing

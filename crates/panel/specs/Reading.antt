@@ -16,6 +16,9 @@ use Rattle.links.specs.Arrays.{Arrays}
 use Rattle.exchange.specs.WholeRead.{whole-read}
 use Rattle.exchange.specs.Demand2.{drawn-as}
 use Rattle.order_reader.specs.Points.{Gave}
+use Rattle.drawing.specs.declared.Drawing.{Drawing}
+use Rattle.drawing.specs.View.{arraysIn, Is}
+use Rattle.drawing.specs.Opens.{blank, Gives}
 use Rattle.panel.specs.Outputs.{Ended, Wrote, turned}
 
 -- an accepted answer has a value
@@ -45,6 +48,18 @@ module _ (f : List ℕ) {a : Arrays} {v : Added} (g : Gave (readOrder f) a v) wh
   drawn h =
       let o = accepted (readOrder f) (cc (g .answers)) in
       drawn-as f (o .value) (whole-read f (o .value) (o .is)) (o .is)
+
+  -- by value: the drawing that the arrays hold,
+  pub given : {d : Drawing} → arraysIn d ≡ a → d .counts ≡ v .counts → v .answer ≡ Accepted → Gives (readOrder f) (record { answer = v .answer; drawing = d })
+  given {d} e n h =
+      let o = accepted (readOrder f) (cc (g .answers)) in
+      let w = whole-read f (o .value) (o .is) in
+      let i : Is (o .value) d = rw (e, n) (g .holds (o .value) (o .is)) in
+      record { answer = g .answers; drawing = rw (o .is) (i, record { plan = o .value; reached = w .reached; is = i }) }
+
+  -- or none
+  pub withheld : {d : Drawing} (r : Refusal) (p : ℕ) → v .answer ≡ Refused r p → d ≡ blank → Gives (readOrder f) (record { answer = v .answer; drawing = d })
+  withheld r p h e = let k = refusing (readOrder f) r p (cc (g .answers)) in record { answer = g .answers; drawing = rw k e }
 
   -- a refused one is refused in drawing
   pub undrawn : (r : Refusal) (p : ℕ) → v .answer ≡ Refused r p → drawFile f ≡ refused r p

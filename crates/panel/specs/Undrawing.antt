@@ -23,7 +23,7 @@ use Rattle.exchange.specs.Results.{bound, followed, tested}
 use Rattle.drawing.specs.Places.{and-both}
 use Rattle.exchange.specs.OrderRead.{between-is}
 use Rattle.exchange.specs.Groups.{judged-built}
-use Rattle.exchange.specs.WholeRead.{whole-so}
+use Rattle.exchange.specs.Entries.{whole-so}
 use Rattle.drawing_reader.specs.Judged.{judgeDrawing, reads-so}
 use Rattle.drawing_reader.specs.Contracted.{LinesRead}
 use Rattle.panel.specs.Outputs.{Ended}
@@ -41,7 +41,8 @@ whole-judged f d h =
     let ps = bound (several n pointPlace (t .value .next)) _ d (g .last) in
     let ls = bound (several (3 * n - 6) lineShape (ps .value .next)) _ d (ps .last) in
     let e = followed (readEnd (ls .value .next)) (judgeLines n s (ls .value .next .offset) (ls .value .all)) d (ls .last) in
-    whole-so n s d (between-is 3 1024 n (b .0)) (between-is 1 8 s (b .1)) (judged-built n s (ls .value .next .offset) (ls .value .all) d (e .last))
+    let p = judged-built n s (ls .value .next .offset) (ls .value .all) d (e .last) in
+    whole-so (between-is 3 1024 n (b .0)) (between-is 1 8 s (b .1)) (p .built) (p .many)
 
 -- what comes back once the bytes are compared
 back : (f : List ℕ) (d : Plan) → Whole d → judgeDrawing f ≡ good d → orderBack f ≡ (compareBytes 0 f (drawingBytes d) >> good (writeOrder d))

@@ -1,23 +1,21 @@
-// Order files into drawing files and back, in buffers that the caller lends; and both files of a drawing that came from calls.
+// Order files into drawing files and back, in buffers that the caller lends; and both files of a drawing, and the drawing of an order file.
+use drawing::Done;
 use drawing::Drawing;
 use links::Counts;
 use rules::Answer;
 use rules::Refusal;
 ghost use mathlib.Core.Path.{_≡_};
-ghost use mathlib.Core.List.{List};
-ghost use Prim.Native.Nat.{ℕ};
 ghost use Rattle.rules.specs.Refusals.{good, answer};
 ghost use Rattle.rules.specs.Points.{Drawing as Plan};
-ghost use Rattle.rules.specs.Calls.{drawn};
-ghost use Rattle.rules.specs.OrderFile.{writeOrder};
+ghost use Rattle.rules.specs.OrderFile.{readOrder, writeOrder};
 ghost use Rattle.rules.specs.DrawingFile.{drawingBytes, writeDrawing, drawFile, orderBack, compareBytes};
 ghost use Rattle.links.specs.Arrays.{arraysOf};
 ghost use Rattle.stored.specs.Adding.{Holds};
-ghost use Rattle.exchange.specs.Built.{Whole};
+ghost use Rattle.exchange.specs.Built.{Reached, Whole};
 ghost use Rattle.order_writer.specs.Writing.{LinesStored};
-ghost use Rattle.drawing.specs.View.{Came};
+ghost use Rattle.drawing.specs.View.{Is, Came};
+ghost use Rattle.drawing.specs.Opens.{Gives};
 ghost use Rattle.panel.specs.Outputs.{Wrote, Ended, Lined, wholeOrder};
-ghost use Rattle.panel.specs.Called.{Drew};
 
 // What a call that writes answers: the number of bytes written, or a refusal with its place.
 pub enum Written {
@@ -237,10 +235,63 @@ pub fn undraw(file: &[u8], out: &mut [u8]) -> Written
     }
 }
 
-// The drawing file of a drawing that came from calls: 22 while it is unfinished, 24 where the buffer is short.
+// The drawing of an order file, by value; with a refusal goes a drawing of zeros.
+pub fn drawing_of(order: &[u8]) -> Done
+    ensures { λ r. ⌜ Gives (readOrder (now (order .entry))) r ⌝ }
+{
+    let mut next = [0u16; 1024];
+    let mut gap = [0u16; 1024];
+    let mut owner = [0u16; 1024];
+    let mut ys = [0u16; 1024];
+    let mut dls = [0u16; 1024];
+    let mut drs = [0u16; 1024];
+    let mut hs = [0u16; 1024];
+    let mut words = [0u16; 3072];
+    let mut later = [0u16; 3072];
+    let mut bends = [0u16; 3072];
+    let mut entries = [0u16; 65536];
+    let read = order_reader::read_order(
+        order,
+        &mut next,
+        &mut gap,
+        &mut owner,
+        &mut ys,
+        &mut dls,
+        &mut drs,
+        &mut hs,
+        &mut words,
+        &mut later,
+        &mut bends,
+        &mut entries,
+    );
+    let counts = read.counts;
+    let answer = read.answer;
+    let Answer::Accepted = answer else {
+        return Done {
+            answer,
+            drawing: drawing::no_drawing(),
+        };
+    };
+    let drawing = Drawing {
+        counts,
+        next,
+        gap,
+        owner,
+        ys,
+        dls,
+        drs,
+        hs,
+        words,
+        later,
+        bends,
+    };
+    Done { answer, drawing }
+}
+
+// The drawing file of a drawing: 22 while it is unfinished, 24 where the buffer is short.
 pub fn drawing_file(d: Drawing, out: &mut [u8]) -> Written
     requires { ⌜ Came d ⌝ }
-    ensures { λ r. ⌜ ((n : ℕ) (calls : List (List ℕ)) → Drew n calls d → Wrote (now (out .entry)) (writeDrawing (drawn n calls)) (now (out .exit)) r) ⌝ }
+    ensures { λ r. ⌜ ((q : Plan) → Reached q → Is q d → Wrote (now (out .entry)) (writeDrawing q) (now (out .exit)) r) ⌝ }
 {
     let c = d.counts;
     if c.k < c.n {
@@ -275,7 +326,7 @@ pub fn drawing_file(d: Drawing, out: &mut [u8]) -> Written
 // Its order file, in the same manner.
 pub fn order_file(d: Drawing, out: &mut [u8]) -> Written
     requires { ⌜ Came d ⌝ }
-    ensures { λ r. ⌜ ((n : ℕ) (calls : List (List ℕ)) → Drew n calls d → Wrote (now (out .entry)) (wholeOrder (drawn n calls)) (now (out .exit)) r) ⌝ }
+    ensures { λ r. ⌜ ((q : Plan) → Reached q → Is q d → Wrote (now (out .entry)) (wholeOrder q) (now (out .exit)) r) ⌝ }
 {
     let c = d.counts;
     if c.k < c.n {

@@ -1,5 +1,5 @@
 -- `move_at` meets its contract: the three refusals in order, and the move.
-use mathlib.Core.Path.{_≡_, sym, _∙_}
+use mathlib.Core.Path.{_≡_, refl, sym, _∙_}
 use native.Mathlib.Omega.{arith}
 use Rattle.tool.specs.declared.Checked.the-variants.{Good}
 use Rattle.tool.specs.Checking.{checkedOf}
@@ -27,7 +27,7 @@ ok c = sym (c .before .before .check-tool .ensures) ∙ c .numbers .given .1
 
 returns-2 : tie.Need-returns-2
 returns-2 c =
-    let b = c .before .before .before .before in
+    let b = c .before .before .before .before .before in
     let o = b .before .before .before in
     λ q h. seen-early h (o .args .t) _ (ok b) (o .args .number) (c .if1 .taken)
 
@@ -38,21 +38,21 @@ returns-3 : tie.Need-returns-3
 returns-3 c =
     let f = c .before .before in
     let w = f .before .before .before in
-    let b = w .before .before .before .before in
+    let b = w .before .before .before .before .before in
     let o = b .before .before .before in
     λ q h. seen-none h (o .args .t) _ (ok b) (o .args .number) (w .if1 .left) (f .nth-cut .result) (f .nth-cut .ensures) (c .if2 .taken)
 
 move-of-requires : tie.Need-move-of-requires
 move-of-requires c κs =
-    let b = c .before .before .before .before .before .before .before .before .before in
+    let b = c .before .before .before .before .before .before .before .before .before .before in
     let o = b .before .before .before in
-    (o .pre, c .if2 .left, omega arith, good-tool (o .args .t) _ (ok b) .2)
+    (o .pre, c .if2 .left, omega arith, refl, good-tool (o .args .t) _ (ok b) .2)
 
 returns-4 : tie.Need-returns-4
 returns-4 c =
     let f = c .before .before .before in
     let w = f .before .before .before in
-    let b = w .before .before .before .before in
+    let b = w .before .before .before .before .before in
     let o = b .before .before .before in
     λ q h.
     seen-made h (o .args .t) _ (ok b) (o .args .number) (w .if1 .left) (f .nth-cut .result) (f .nth-cut .ensures) (c .before .if2 .left) (c .move-of .result)

@@ -1,53 +1,18 @@
--- `line` meets its contract: the line read from the arrays is the drawing's, and bends where the rules say.
+-- `line` meets its contract: the settled drawing is the same.
+use mathlib.Core.Path.{_≡_, sym, subst}
+use Rattle.drawing.specs.View.{Is}
 use borrow.Author.Needs.{needs}
-use Rattle.drawing.specs.Places.{settleable}
-use Rattle.drawing.specs.Lines.{line-bends, line-seen, no-line}
 use Rattle.drawing.proofs.line.Statement.{statement}
 use Rattle.drawing.proofs.line.Tie as tie
 
+settle-requires : tie.Need-settle-requires
+settle-requires c κs = search needs
+
+line-at-requires : tie.Need-line-at-requires
+line-at-requires c κs = search needs
+
 returns : tie.Need-returns
-returns c = λ q h. no-line h (c .before .before .before .args .e) (c .if1 .taken)
-
-line-in-requires : tie.Need-line-in-requires
-line-in-requires c κs = search needs
-
-settled-requires : tie.Need-settled-requires
-settled-requires c κs = settleable (c .before .before .before .before .before .before .before .before .before .before .before .before .before .before .before .before .pre .is)
-
-broad-requires : tie.Need-broad-requires
-broad-requires c κs = search needs
-
-broad-requires-2 : tie.Need-broad-requires-2
-broad-requires-2 c κs = search needs
-
-bend-of-requires : tie.Need-bend-of-requires
-bend-of-requires c κs =
-    let u = c .before .before .before .before .before in
-    let x = u .before .before .before .before .before .before in
-    let l = x .before .before .before .before .before .before .before in
-    let e = l .before .before .before .before .before .before .before in
-    let o = e .before .before .before in
-    rw (u .before .broad .ensures, u .broad2 .ensures)
-    (line-bends (o .pre .is) (x .settled .ensures) (o .args .e) (e .if1 .left) (l .line-in .result) (l .line-in .ensures))
-
-returns-2 : tie.Need-returns-2
-returns-2 c =
-    let u = c .before .before .before .before .before .before in
-    let x = u .before .before .before .before .before .before in
-    let l = x .before .before .before .before .before .before .before in
-    let e = l .before .before .before .before .before .before .before in
-    let o = e .before .before .before in
-    λ q h. rw (c .bend-of .ensures, u .before .broad .ensures, u .broad2 .ensures)
-    (line-seen h (x .settled .ensures) (o .args .e) (e .if1 .left) (l .line-in .result) (l .line-in .ensures))
+returns c = λ q h. c .line-at .ensures q (subst (Is q) (sym (c .before .settle .ensures .0)) h)
 
 pub line-spec : {M : Type 1} → statement M
-line-spec =
-    tie.close
-    (tie.spec
-    returns
-    line-in-requires
-    settled-requires
-    broad-requires
-    broad-requires-2
-    bend-of-requires
-    returns-2)
+line-spec = tie.close (tie.spec settle-requires line-at-requires returns)

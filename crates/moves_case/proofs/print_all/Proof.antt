@@ -5,10 +5,10 @@ use Rattle.moves_case.proofs.print_all.Statement.{statement}
 use Rattle.moves_case.proofs.print_all.Tie as tie
 
 abbrev Inv-loop : tie.InvT-loop
-Inv-loop d t n number₀ number = number ≤ n
+Inv-loop v t n number₀ number = number ≤ n
 
 abbrev μ-loop : tie.MeasureT-loop
-μ-loop d t n number₀ number = n - number
+μ-loop v t n number₀ number = n - number
 
 move-count-requires : tie.Need-move-count-requires Inv-loop μ-loop
 move-count-requires c κs = search needs

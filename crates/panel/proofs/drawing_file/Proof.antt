@@ -2,12 +2,12 @@
 use Prim.Native.Nat.{_≤_}
 use borrow.Author.Needs.{needs}
 use Rattle.panel.specs.Outputs.{turned}
-use Rattle.panel.specs.Called.{early, late, whole-late, ended-late}
+use Rattle.panel.specs.Finishing.{early, late, whole-late, ended-late}
 use Rattle.panel.proofs.drawing_file.Statement.{statement}
 use Rattle.panel.proofs.drawing_file.Tie as tie
 
 returns : tie.Need-returns
-returns c n calls t = rw (early t _ (search needs)) (turned _ _ _)
+returns c q r t = rw (early t _ (search needs)) (turned _ _ _)
 
 put-drawing-requires : tie.Need-put-drawing-requires
 put-drawing-requires c κs = ended-late (c .before .before .before .before .before .before .before .before .before .before .before .before .before .before .before .before .before .before .before .before .before .before .before .before .before .pre) (search needs)
@@ -16,9 +16,9 @@ same-length : tie.Need-same-length
 same-length c = search needs
 
 returns-2 : tie.Need-returns-2
-returns-2 c n calls t =
+returns-2 c q r t =
     let h : c .before .before .before .before .before .before .before .before .before .before .before .before .before .before .before .before .before .before .before .before .before .before .before .before .before .before .before .before .args .d .counts .n ≤ c .before .before .before .before .before .before .before .before .before .before .before .before .before .before .before .before .before .before .before .before .before .before .before .before .before .before .before .before .args .d .counts .k = search needs in
-    rw (late t _ h) (c .before .before .put-drawing .ensures _ (whole-late t h) (t .is))
+    rw (late t _ h) (c .before .before .put-drawing .ensures _ (whole-late t r h) t)
 
 pub drawing-file-spec : {M : Type 1} → statement M
 drawing-file-spec = tie.close (tie.spec returns put-drawing-requires same-length returns-2)

@@ -3,12 +3,12 @@ use Prim.Native.Nat.{_≤_}
 use borrow.Author.Needs.{needs}
 use Rattle.panel.specs.Outputs.{turned}
 use Rattle.panel.specs.Files.{lines-of}
-use Rattle.panel.specs.Called.{early, late, whole-late, lined-late}
+use Rattle.panel.specs.Finishing.{early, late, whole-late, lined-late}
 use Rattle.panel.proofs.order_file.Statement.{statement}
 use Rattle.panel.proofs.order_file.Tie as tie
 
 returns : tie.Need-returns
-returns c n calls t = rw (early t _ (search needs)) (turned _ _ _)
+returns c q r t = rw (early t _ (search needs)) (turned _ _ _)
 
 put-order-requires : tie.Need-put-order-requires
 put-order-requires c κs = lined-late (c .before .before .before .before .before .before .before .before .before .pre) (search needs)
@@ -17,9 +17,9 @@ same-length : tie.Need-same-length
 same-length c = search needs
 
 returns-2 : tie.Need-returns-2
-returns-2 c n calls t =
+returns-2 c q r t =
     let h : c .before .before .before .before .before .before .before .before .before .before .before .before .args .d .counts .n ≤ c .before .before .before .before .before .before .before .before .before .before .before .before .args .d .counts .k = search needs in
-    rw (late t _ h) (c .before .before .put-order .ensures _ (whole-late t h) (lines-of (t .is)))
+    rw (late t _ h) (c .before .before .put-order .ensures _ (whole-late t r h) (lines-of t))
 
 pub order-file-spec : {M : Type 1} → statement M
 order-file-spec = tie.close (tie.spec returns put-order-requires same-length returns-2)

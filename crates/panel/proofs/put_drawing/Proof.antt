@@ -2,8 +2,7 @@ use borrow.Author.Needs.{needs}
 use native.Mathlib.Omega.{arith}
 use Rattle.drawing.specs.Places.{settleable}
 use Rattle.panel.specs.Outputs.{short, full}
-use Rattle.panel.specs.Wholes.{need-is}
-use Rattle.panel.specs.Files.{finish, writable}
+use Rattle.panel.specs.Files.{need-is, finish, writable}
 use Rattle.panel.proofs.put_drawing.Statement.{statement}
 use Rattle.panel.proofs.put_drawing.Tie as tie
 use Rattle.panel.proofs.put_drawing.Reads as reads

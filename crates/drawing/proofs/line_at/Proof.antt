@@ -1,0 +1,46 @@
+-- `line_at` meets its contract: the line read from the arrays is the drawing's, and bends where the rules say.
+use borrow.Author.Needs.{needs}
+use Rattle.drawing.specs.Lines.{line-bends, line-seen, no-line}
+use Rattle.drawing.proofs.line_at.Statement.{statement}
+use Rattle.drawing.proofs.line_at.Tie as tie
+
+returns : tie.Need-returns
+returns c = λ q h. no-line h (c .before .before .before .before .args .e) (c .if1 .taken)
+
+line-in-requires : tie.Need-line-in-requires
+line-in-requires c κs = search needs
+
+broad-requires : tie.Need-broad-requires
+broad-requires c κs = search needs
+
+broad-requires-2 : tie.Need-broad-requires-2
+broad-requires-2 c κs = search needs
+
+bend-of-requires : tie.Need-bend-of-requires
+bend-of-requires c κs =
+    let u = c .before .before .before .before .before in
+    let l = u .before .before .before .before .before .before .before in
+    let e = l .before .before .before .before .before .before .before in
+    let o = e .before .before .before .before in
+    rw (u .before .broad .ensures, u .broad2 .ensures)
+    (line-bends (o .pre .came .is) (o .pre .settled) (o .args .e) (e .if1 .left) (l .line-in .result) (l .line-in .ensures))
+
+returns-2 : tie.Need-returns-2
+returns-2 c =
+    let u = c .before .before .before .before .before .before in
+    let l = u .before .before .before .before .before .before .before in
+    let e = l .before .before .before .before .before .before .before in
+    let o = e .before .before .before .before in
+    λ q h. rw (c .bend-of .ensures, u .before .broad .ensures, u .broad2 .ensures)
+    (line-seen h (o .pre .settled) (o .args .e) (e .if1 .left) (l .line-in .result) (l .line-in .ensures))
+
+pub line-at-spec : {M : Type 1} → statement M
+line-at-spec =
+    tie.close
+    (tie.spec
+    returns
+    line-in-requires
+    broad-requires
+    broad-requires-2
+    bend-of-requires
+    returns-2)

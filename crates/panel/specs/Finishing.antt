@@ -1,0 +1,33 @@
+-- The files of a drawing, finished or not.
+use Prim.Native.Nat.{ℕ, _<_, _≤_}
+use mathlib.Core.Path.{_≡_}
+use native.Mathlib.Omega.{arith}
+use lib.Dec.{ltb}
+use borrow.Author.Tests.{lt-ltb, le-ltb}
+use Rattle.rules.specs.declared.Refusal.the-variants.{Unfinished}
+use Rattle.rules.specs.Refusals.{Result, refused, refuseIf, _>>_}
+use Rattle.rules.specs.Points.{Drawing as Plan}
+use Rattle.exchange.specs.Built.{Reached, Whole}
+use Rattle.drawing.specs.declared.Drawing.{Drawing}
+use Rattle.drawing.specs.View.{arraysIn, Is, Came}
+use Rattle.panel.specs.Outputs.{Ended, Lined}
+use Rattle.panel.specs.Files.{lines-of}
+
+module _ {q : Plan} {d : Drawing} (t : Is q d) where
+  -- no file yet
+  pub early : {A : Type 0} (wanted : Result A) → d .counts .k < d .counts .n → (refuseIf (ltb (q .k) (q .n)) Unfinished 0 >> wanted) ≡ refused Unfinished 0
+  early wanted h = rw (lt-ltb (q .k) (q .n) (omega (arith, t .stores .k, t .stores .n)))
+
+  -- the file
+  pub late : {A : Type 0} (wanted : Result A) → d .counts .n ≤ d .counts .k → (refuseIf (ltb (q .k) (q .n)) Unfinished 0 >> wanted) ≡ wanted
+  late wanted h = rw (le-ltb (q .k) (q .n) (omega (arith, t .stores .k, t .stores .n)))
+
+  -- a finished one is whole
+  pub whole-late : Reached q → d .counts .n ≤ d .counts .k → Whole q
+  whole-late r h = record { reached = r; full = omega (arith, t .stores .k, t .stores .n, t .standing .ranged .room) }
+
+pub ended-late : {d : Drawing} → Came d → d .counts .n ≤ d .counts .k → Ended (arraysIn d) (d .counts)
+ended-late c h = record { d = c .plan; whole = whole-late (c .is) (c .reached) h; holds = c .is }
+
+pub lined-late : {d : Drawing} → Came d → d .counts .n ≤ d .counts .k → Lined (d .words) (d .later) (d .counts)
+lined-late c h = record { d = c .plan; whole = whole-late (c .is) (c .reached) h; stored = lines-of (c .is) }
