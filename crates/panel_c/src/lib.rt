@@ -22,7 +22,9 @@ ghost use Rattle.panel_c.specs.Moving.{kindOf, numbersOf, placeOf, moveF
 fn place(r: Refusal, p: usize, refusal: &mut [u64; 2])
     ensures { λ _. ⌜ now (refusal .exit) ≡ number r ∷ p ∷ [] ⌝ }
 {
-    *refusal = [rules::refusal_number(r) as u64, p as u64];
+    let number = rules::refusal_number(r) as u64;
+    let at = p as u64;
+    *refusal = [number, at];
 }
 
 // The number of bytes written, or the refusal.
