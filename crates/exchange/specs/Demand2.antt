@@ -1,15 +1,15 @@
 -- DEMAND 2 over the definitions: a drawing file is read exactly when it is the drawing of some accepted order file, and that order file comes back.
 -- A file is a list of bytes (`Bytes`).
-use Prim.Native.Nat.{ℕ, _≤_}
+use Prim.Native.Nat.{ℕ}
 use mathlib.Core.Path.{_≡_, refl, ap, sym, _∙_, subst}
 use mathlib.Core.Logic.{_↔_}
-use mathlib.Core.Bool.{Bool, true, false}
+use mathlib.Core.Bool.{false}
 use mathlib.Core.List.{List}
 use native.Mathlib.Omega.{arith}
 use lib.Dec.{ltb}
 use borrow.Author.Tests.{le-ltb}
 use Rattle.rules.specs.declared.Refusal.the-variants.{Unfinished}
-use Rattle.rules.specs.Refusals.{Result, good, _>>=_, _>>_, refuseIf}
+use Rattle.rules.specs.Refusals.{good}
 use Rattle.rules.specs.Points.{Drawing}
 use Rattle.rules.specs.OrderFile.{readOrder, writeOrder}
 use Rattle.rules.specs.DrawingFile.{drawingBytes, writeDrawing, drawFile, readDrawing, orderBack}

@@ -1,5 +1,5 @@
 -- DEMAND 2, drawing files: reading the drawing file of a finished drawing gives the drawing back, and what is read is such a file.
-use Prim.Native.Nat.{ℕ, zero, suc, pred, _+_, _-_, _*_, _<_, _≤_}
+use Prim.Native.Nat.{ℕ, suc, pred, _+_, _-_, _*_, _<_, _≤_}
 use mathlib.Core.Path.{_≡_, refl, ap, ap₂, sym, _∙_, subst}
 use mathlib.Core.Bool.{Bool, true, false, not, _&&_, false≢true}
 use mathlib.Core.List.{List, [], _∷_, _++_}
@@ -11,7 +11,7 @@ use borrow.Author.Tests.{eq-eqb, eqb-true, le-leb, leb-true, not-false}
 use Rattle.rules.specs.declared.Line.{Line}
 use Rattle.rules.specs.declared.Entry.{Entry}
 use Rattle.rules.specs.declared.Refusal.the-variants.{OutOfRange, OtherDrawing}
-use Rattle.rules.specs.Basics.{if_then_else_, between}
+use Rattle.rules.specs.Basics.{between}
 use Rattle.rules.specs.Refusals.{good}
 use Rattle.rules.specs.Points.{Drawing, m, W, lineAt}
 use Rattle.rules.specs.Ports.{bendPlace}
@@ -243,10 +243,6 @@ small d w =
     up : {a k n : ℕ} → pred a < k → k ≡ n → a ≤ n
     up h e = omega arith
 
--- the numbers of the header
-pub head-words : (d : Drawing) → Whole d → Words (headWords d)
-head-words d w = let t = small d w in words-cons (omega (arith, w .reached .high)) (words-cons (omega (arith, w .reached .scale)) (words-cons (omega (arith, t .width)) (words-cons (omega (arith, t .height)) words-nil)))
-
 -- the numbers of point records, over plain lists
 points-words : (s : ℕ) (xs ys : List ℕ) → ((i : ℕ) → i < length xs → s * getD xs i 0 ≤ 40888) → ((i : ℕ) → i < length ys → s * getD ys i 0 ≤ 40888) → AllWords (pointsWords s xs ys)
 points-words s [] ys f g = tt
@@ -254,36 +250,10 @@ points-words s (x ∷ xs) [] f g = tt
 points-words s (x ∷ xs) (y ∷ ys) f g =
     (words-cons (omega (arith, f 0 (omega arith))) (words-cons (omega (arith, g 0 (omega arith))) words-nil), points-words s xs ys (λ i k. f (suc i) (omega arith)) (λ i k. g (suc i) (omega arith)))
 
--- the numbers of the drawing's point records
-pub point-words : (d : Drawing) → Whole d → AllWords (pointsWords (d .s) (d .xs) (d .ys))
-point-words d w =
-    let z = sizes d w in
-    let t = small d w in
-    points-words (d .s) (d .xs) (d .ys) (λ i k. t .xs i (rw (z .xs) at k)) (λ i k. t .ys i (rw (z .ys) at k))
-
 -- the numbers of line records, where those of each line are known
 lines-words : (d : Drawing) (ls : List Line) (z : Line) → ((e : ℕ) → e < length ls → Words (lineWords (d .s) (getD ls e z) (bendPlace d (getD ls e z)))) → AllWords (linesWords d ls)
 lines-words d [] z f = tt
 lines-words d (l ∷ ls) z f = (f 0 (omega arith), lines-words d ls z (λ e k. f (suc e) (omega arith)))
-
--- the flag of a line is small
-flag-word : (c : Bool) → (if c then 1 else 0) < 65536
-flag-word true = omega arith
-flag-word false = omega arith
-
--- the numbers of the drawing's line records
-pub line-words : (d : Drawing) → Whole d → AllWords (linesWords d (d .lines))
-line-words d w =
-    let t = small d w in
-    lines-words d (d .lines) _ (one t)
-  where
-    word : {a n : ℕ} → a ≤ n → n ≤ 40888 → a < 65536
-    word h k = omega arith
-
-    one : Small d → (e : ℕ) → IsLine d e → Words (lineWords (d .s) (lineAt d e) (bendPlace d (lineAt d e)))
-    one t e k =
-        let n : d .n ≤ 40888 = omega (arith, w .reached .high) in
-        words-cons (word (t .ends e k .0) n) (words-cons (word (t .ends e k .1) n) (words-cons (omega (arith, t .bends e k)) (words-cons (omega (arith, t .bends e k)) (words-cons (flag-word (lineAt d e .cut)) words-nil))))
 
 -- ---- so the file is a list of bytes
 
@@ -291,11 +261,3 @@ line-words d w =
 bytes-all : (mark c : ℕ) (wss : List (List ℕ)) → mark < 65536 → AllWords wss → Bytes (writtenAll (record { mark = mark; size = plain c }) wss)
 bytes-all mark c [] a h = bytes-words [] words-nil
 bytes-all mark c (ws ∷ wss) a h = bytes-append (bytesOf (mark ∷ ws)) (bytes-words (mark ∷ ws) (words-cons a (h .0))) (bytes-all mark c wss a (h .1))
-
--- the drawing file of a finished drawing is a list of bytes
-pub drawing-bytes : (d : Drawing) → Whole d → Bytes (drawingBytes d)
-drawing-bytes d w =
-    rw (bytes-are d)
-    (bytes-append (written drawingHead (headWords d)) (bytes-words (0x4448 ∷ headWords d) (words-cons (omega arith) (head-words d w)))
-    (bytes-append (writtenAll pointPlace (pointsWords (d .s) (d .xs) (d .ys))) (bytes-all 0x504F 2 (pointsWords (d .s) (d .xs) (d .ys)) (omega arith) (point-words d w))
-    (bytes-append (writtenAll lineShape (linesWords d (d .lines))) (bytes-all 0x4C4E 5 (linesWords d (d .lines)) (omega arith) (line-words d w)) (bytes-words (0x454E ∷ []) (words-cons (omega arith) words-nil)))))

@@ -15,7 +15,7 @@ use Rattle.rules.specs.declared.Bend.the-variants.{Straight}
 use Rattle.rules.specs.declared.Refusal.the-variants.{OtherStart}
 use Rattle.rules.specs.Basics.{if_then_else_, snoc, same}
 use Rattle.rules.specs.Refusals.{Result, good, _>>_, placed}
-use Rattle.rules.specs.Points.{Drawing, start}
+use Rattle.rules.specs.Points.{Drawing}
 use Rattle.rules.specs.Adding.{pointsOf, addEntries, newLines, newBend}
 use Rattle.rules.specs.Ports.{bendPlace}
 use Rattle.rules.specs.Records.{Size, Shape, Found, written, readRecord, several, lineShape}

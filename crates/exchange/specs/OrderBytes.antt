@@ -1,8 +1,7 @@
 -- The order file that a finished drawing writes is a list of bytes.
 use Prim.Native.Nat.{ℕ, suc, _+_, _<_, _≤_}
-use mathlib.Core.Path.{_≡_, refl}
 use mathlib.Core.Bool.{Bool, true, false}
-use mathlib.Core.List.{List, [], _∷_, _++_, map}
+use mathlib.Core.List.{List, [], _∷_, map}
 use native.Mathlib.Omega.{arith}
 use lib.ListN.{length, length-map}
 use lib.Dec.{eqb}
@@ -10,11 +9,10 @@ use Rattle.rules.specs.declared.Entry.{Entry}
 use Rattle.rules.specs.Basics.{if_then_else_}
 use Rattle.rules.specs.Entries.{wordOf}
 use Rattle.rules.specs.Points.{Drawing}
-use Rattle.rules.specs.Records.{written, scaleShape, orderHead, bytesOf}
+use Rattle.rules.specs.Records.{written, scaleShape, orderHead}
 use Rattle.rules.specs.OrderFile.{orderScale, writeOrder}
 use Rattle.exchange.specs.Built.{Whole, Bytes}
 use Rattle.exchange.specs.Numbers.{Words, words-nil, words-cons, bytes-append, bytes-words}
-use Rattle.exchange.specs.Entries.{every}
 use Rattle.exchange.specs.Replay.{Fitting, Replays, none, more, fitting-second, fitting-third, replayed}
 use Rattle.exchange.specs.OrderWrite.{pointRecord, pointRecords, write-built}
 

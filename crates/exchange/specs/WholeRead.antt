@@ -9,7 +9,7 @@ use borrow.Author.Tests.{not-false}
 use Rattle.rules.specs.declared.Entry.{Entry}
 use Rattle.rules.specs.declared.Refusal.the-variants.{OutOfRange}
 use Rattle.rules.specs.Basics.{if_then_else_, between, snoc}
-use Rattle.rules.specs.Refusals.{Result, good, placed, _>>=_}
+use Rattle.rules.specs.Refusals.{good, placed, _>>=_}
 use Rattle.rules.specs.Points.{Drawing}
 use Rattle.rules.specs.Adding.{addEntries}
 use Rattle.rules.specs.Records.{Cursor, first, readRecord, readEnd, marked, fromStart, orderHead, scaleShape, pointEntries}

@@ -1,10 +1,8 @@
 -- The arrays that keep a drawing, as lists. Point p stands at index p - 1, line e at index e.
-use Prim.Native.Nat.{ℕ, zero, suc, pred, _+_, _*_, _/_, _%_, _<_, _≤_}
+use Prim.Native.Nat.{ℕ, suc, pred, _+_, _<_, _≤_}
 use mathlib.Core.Path.{_≡_}
-use mathlib.Core.Bool.{Bool}
 use mathlib.Core.List.{List}
 use lib.ListN.{length, getD, take}
-use Rattle.rules.specs.declared.Line.{Line}
 use Rattle.rules.specs.declared.Bend.{Bend}
 use Rattle.rules.specs.declared.Bend.the-variants.{Left, Right, Middle, Straight}
 use Rattle.rules.specs.Entries.{entryOf}

@@ -3,7 +3,7 @@ use Prim.Native.Nat.{ℕ, zero, suc, pred, _+_, _-_}
 use mathlib.Core.Bool.{not}
 use mathlib.Core.List.{List}
 use lib.ListN.{length, getD, set}
-use lib.Dec.{eqb, ltb}
+use lib.Dec.{eqb}
 use Rattle.rules.specs.declared.Refusal.the-variants.{NoReach}
 use Rattle.rules.specs.Basics.{if_then_else_}
 use Rattle.rules.specs.Refusals.{Result, good, refused, _>>_, refuseIf}

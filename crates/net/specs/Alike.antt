@@ -1,9 +1,9 @@
 -- 8, for both drawings: two different lines differ in at least one end.
-use Prim.Native.Nat.{ℕ, _+_, _<_, _≤_}
+use Prim.Native.Nat.{ℕ, _+_, _<_}
 use mathlib.Core.Path.{_≡_, ap}
 use mathlib.Core.Logic.{_≢_}
 use native.Mathlib.Omega.{arith}
-use Rattle.net.specs.Side.{Tie, Side, at, at-in}
+use Rattle.net.specs.Side.{Tie, at, at-in}
 use Rattle.net.specs.Net.{Net}
 use Rattle.net.specs.Inv.{Points, Lines, Alike}
 use Rattle.net.specs.Adds.{Line, old, tip, rib, Adds}

@@ -1,6 +1,6 @@
 -- 5, for both drawings: along the boundary x + y changes its parity at every step of a one-bend drawing, and at none of a straight one.
 use Prim.Native.Nat.{ℕ, zero, suc, _+_, _%_, _<_}
-use mathlib.Core.Path.{_≡_, ap}
+use mathlib.Core.Path.{_≡_}
 use native.Mathlib.Omega.{arith}
 use Rattle.net.specs.Side.{Tie, strict, height, Side, rt, lf, op, at}
 use Rattle.net.specs.Net.{Net, Next}

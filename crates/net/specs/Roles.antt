@@ -5,7 +5,6 @@ use native.Mathlib.Omega.{arith}
 use native.Mathlib.Decide.{ℕ-discrete}
 use Rattle.rules.specs.declared.Place.{Place}
 use Rattle.plane.specs.Apart.{Fun, Le, OnlyAt, fx, fy, fa}
-use Rattle.plane.specs.Only.{only-flip}
 use Rattle.net.specs.Side.{strict, Side, rt, lf, op}
 use Rattle.net.specs.Net.{Net, side, middle, flat}
 use Rattle.net.specs.Inv.{Aside, Slope, Reach}
@@ -79,9 +78,6 @@ module _ (z : Place) (S T : Spot → Place) where
 
   pub top-free : (s : Side) → TopAt z S → FreeAt s z T → Only z S T
   top-free s a b = only fy (a .ups) (b .low)
-
-pub flip-only : (z : Place) (S T : Spot → Place) → Only z S T → Only z T S
-flip-only z S T h i j i′ j′ = only-flip _ _ _ _ _ (h i′ j′ i j)
 
 -- ---- every line at each of its ends
 

@@ -6,7 +6,6 @@ use native.Mathlib.Omega.{arith}
 use lib.Ieee.{Float, binary32, ofBits}
 use Rattle.rules.specs.declared.Answer.{Answer}
 use Rattle.rules.specs.declared.Answer.the-variants.{Accepted}
-use Rattle.rules.specs.declared.Answer.the-variants as Answer
 use Rattle.rules.specs.Refusals.{Result, good, refused, answer, number, _>>=_}
 use Rattle.rules.specs.Points.{Drawing as Plan, opening}
 use Rattle.rules.specs.Calls.{drawn}

@@ -1,12 +1,12 @@
 -- Pieces that a linear functional keeps apart do not meet; pieces that touch at a level have only that point in common.
 use Prim.Native.Nat.{ℕ, _+_, _*_, _-_, _<_, _≤_}
-use mathlib.Core.Path.{_≡_, refl, ap, sym, _∙_}
-use mathlib.Core.Bool.{Bool, true, false}
+use mathlib.Core.Path.{_≡_, ap}
+use mathlib.Core.Bool.{false}
 use native.Mathlib.Omega.{arith}
-use native.Mathlib.Nat.{mul-le-mul-left, eq-of-mul-eq-mul-left}
+use native.Mathlib.Nat.{mul-le-mul-left}
 use native.Mathlib.Decide.{decLe}
 use Rattle.rules.specs.declared.Place.{Place}
-use Rattle.rules.specs.Meeting.{crossPlus, crossMinus, meet}
+use Rattle.rules.specs.Meeting.{meet}
 use Rattle.plane.specs.Bools.{is-false}
 use Rattle.plane.specs.Common.{Common, meet-common, flip}
 
@@ -77,11 +77,6 @@ fa = record { au = 1; bu = 0; av = 0; bv = 1 }
 abbrev pub fb : Fun
 fb = record { au = 1; bu = 1; av = 0; bv = 0 }
 
--- in use: the plain statement about x - y is what omega makes of it
-pub apart-a : (p q r s : Place) → p .x + r .y < r .x + p .y → p .x + s .y < s .x + p .y → q .x + r .y < r .x + q .y → q .x + s .y < s .x + q .y →
-    meet p q r s ≡ false
-apart-a p q r s h₁ h₂ h₃ h₄ = apart fa p q r s (omega arith) (omega arith) (omega arith) (omega arith)
-
 -- L2. A common point is at a place e.
 pub record At (e : Place) {p q r s : Place} (w : Common p q r s) : Type 0 where
   pub atx : w .A * p .x + w .B * q .x ≡ (w .A + w .B) * e .x
@@ -97,12 +92,6 @@ touch-A : (A B C D up uq ur us vp vq vr vs cu cv : ℕ) → A + B ≡ C + D →
 touch-A A B C D up uq ur us vp vq vr vs cu cv tot eu ev h₁ h₂ h₃ h₄ =
     omega (arith, mul-le-mul-left A h₁, mul-le-mul-left B h₂, mul-le-mul-left C h₃, mul-le-mul-left D h₄, ap (λ n. n * cu) tot, ap (λ n. n * cv) tot)
 
-touch-D : (A B C D up uq ur us vp vq vr vs cu cv : ℕ) → A + B ≡ C + D →
-    A * up + B * uq ≡ C * ur + D * us → A * vp + B * vq ≡ C * vr + D * vs →
-    up + cv ≤ cu + vp → uq + cv ≤ cu + vq → cu + vr ≤ ur + cv → cu + vs < us + cv → D ≡ 0
-touch-D A B C D up uq ur us vp vq vr vs cu cv tot eu ev h₁ h₂ h₃ h₄ =
-    omega (arith, mul-le-mul-left A h₁, mul-le-mul-left B h₂, mul-le-mul-left C h₃, mul-le-mul-left D h₄, ap (λ n. n * cu) tot, ap (λ n. n * cv) tot)
-
 -- p is below q, and q is at most r and s: a common point is q.
 pub touch : (f : Fun) (p q r s : Place) → Lt f p q → Le f q r → Le f q s → OnlyAt q p q r s
 touch f p q r s h₁ h₂ h₃ w =
@@ -110,24 +99,3 @@ touch f p q r s h₁ h₂ h₃ w =
     touch-A (w .A) (w .B) (w .C) (w .D) (up f p) (up f q) (up f r) (up f s) (dn f p) (dn f q) (dn f r) (dn f s)
     (up f q) (dn f q) (w .tot) (mean-up f p q r s w) (mean-dn f p q r s w) (omega arith) (omega arith) (omega arith) (omega arith) in
     record { atx = omega (arith, ap (λ n. n * p .x) z, ap (λ n. n * q .x) z); aty = omega (arith, ap (λ n. n * p .y) z, ap (λ n. n * q .y) z) }
-
--- if moreover s is above q, the common point is r too
-pub touch-same : (f : Fun) (p q r s : Place) → Lt f p q → Le f q r → Lt f q s → Common p q r s → q ≡ r
-touch-same f p q r s h₁ h₂ h₃ w =
-    let z : w .A ≡ 0 =
-    touch-A (w .A) (w .B) (w .C) (w .D) (up f p) (up f q) (up f r) (up f s) (dn f p) (dn f q) (dn f r) (dn f s)
-    (up f q) (dn f q) (w .tot) (mean-up f p q r s w) (mean-dn f p q r s w) (omega arith) (omega arith) (omega arith) (omega arith) in
-    let d : w .D ≡ 0 =
-    touch-D (w .A) (w .B) (w .C) (w .D) (up f p) (up f q) (up f r) (up f s) (dn f p) (dn f q) (dn f r) (dn f s)
-    (up f q) (dn f q) (w .tot) (mean-up f p q r s w) (mean-dn f p q r s w) (omega arith) (omega arith) (omega arith) (omega arith) in
-    let t : w .B ≡ w .C = omega arith in
-    let ex : q .x ≡ r .x =
-    eq-of-mul-eq-mul-left (w .B) (omega arith) (q .x) (r .x)
-    (omega (arith, ap (λ n. n * p .x) z, ap (λ n. n * s .x) d, ap (λ n. n * r .x) t)) in
-    let ey : q .y ≡ r .y =
-    eq-of-mul-eq-mul-left (w .B) (omega arith) (q .y) (r .y)
-    (omega (arith, ap (λ n. n * p .y) z, ap (λ n. n * s .y) d, ap (λ n. n * r .y) t)) in
-    λ i. record { x = ex i; y = ey i }
-
-pub touch-apart : (f : Fun) (p q r s : Place) → Lt f p q → Le f q r → Lt f q s → (q ≡ r → ⊥) → meet p q r s ≡ false
-touch-apart f p q r s h₁ h₂ h₃ n = is-false _ (λ e. n (touch-same f p q r s h₁ h₂ h₃ (meet-common p q r s e)))

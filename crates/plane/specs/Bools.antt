@@ -1,7 +1,7 @@
 -- What a compound test tells.
-use mathlib.Core.Path.{_≡_, refl, sym}
+use mathlib.Core.Path.{_≡_, refl}
 use mathlib.Core.Logic.{_⊎_, inl, inr}
-use mathlib.Core.Bool.{Bool, true, false, not, _&&_, _||_, true≢false, false≢true}
+use mathlib.Core.Bool.{Bool, true, false, _&&_, _||_, true≢false, false≢true}
 
 pub both : (a b : Bool) → (a && b) ≡ true → (a ≡ true) × (b ≡ true)
 both true b e = (refl, e)
@@ -22,7 +22,3 @@ either false b e = inr e
 pub is-false : (a : Bool) → (a ≡ true → ⊥) → a ≡ false
 is-false true h = absurd (h refl)
 is-false false h = refl
-
-pub decide-bool : (a : Bool) → (a ≡ true) ⊎ (a ≡ false)
-decide-bool true = inl refl
-decide-bool false = inr refl

@@ -2,18 +2,18 @@
 use Prim.Native.Nat.{ℕ, _+_, _*_, _-_, _<_, _≤_, min, max}
 use mathlib.Core.Path.{_≡_, refl, ap, sym, _∙_}
 use mathlib.Core.Logic.{_⊎_, inl, inr, _≢_}
-use mathlib.Core.Bool.{Bool, true, false, not, _&&_, _||_, true≢false, false≢true}
+use mathlib.Core.Bool.{Bool, true, false, not, _&&_, true≢false}
 use native.Mathlib.Omega.{arith}
 use native.Mathlib.Nat.{add-sub-of-le}
 use native.Mathlib.Decide.{decLe, decLt, ℕ-discrete}
-use lib.Dec.{ltb, leb}
-use borrow.Author.Tests.{ltb-true, ltb-false, leb-true, lt-ltb, le-ltb, not-true, not-false}
+use lib.Dec.{leb}
+use borrow.Author.Tests.{ltb-false, leb-true, not-true}
 use Rattle.rules.specs.declared.Place.{Place}
 use Rattle.rules.specs.Basics.{if_then_else_}
-use Rattle.rules.specs.Meeting.{crossPlus, crossMinus, leftOf, rightOf, oneSide, inLine, oneLine, overlap, meet}
+use Rattle.rules.specs.Meeting.{crossPlus, crossMinus, leftOf, rightOf, oneSide, oneLine, overlap, meet}
 use Rattle.plane.specs.Aligned.{Aligned, aligned-test, test-aligned}
 use Rattle.plane.specs.Ident.{dep-one, dep-x, dep-y}
-use Rattle.plane.specs.Bools.{both, neither, notboth, either, is-false, decide-bool}
+use Rattle.plane.specs.Bools.{both, neither, notboth}
 
 -- The point (A p + B q) / (A + B) of the piece pq is the point (C r + D s) / (C + D) of the piece rs.
 pub record Common (p q r s : Place) : Type 0 where

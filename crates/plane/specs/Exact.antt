@@ -1,18 +1,17 @@
 -- The test is exact: pieces that have a point in common by weights meet by the signs of cross products.
 use Prim.Native.Nat.{ℕ, _+_, _*_, _-_, _<_, _≤_, min, max}
-use mathlib.Core.Path.{_≡_, refl, ap, sym, _∙_}
+use mathlib.Core.Path.{_≡_, ap, sym}
 use mathlib.Core.Logic.{inl, inr}
-use mathlib.Core.Bool.{Bool, true, false, not, _&&_, _||_, true≢false, false≢true}
+use mathlib.Core.Bool.{Bool, true, false, not, _&&_}
 use native.Mathlib.Omega.{arith}
 use native.Mathlib.Nat.{mul-le-mul-left}
 use native.Mathlib.Decide.{decLe}
-use lib.Dec.{ltb, leb}
-use borrow.Author.Tests.{ltb-true, ltb-false, leb-true, lt-ltb, le-ltb, le-leb}
+use borrow.Author.Tests.{ltb-true, le-leb}
 use Rattle.rules.specs.declared.Place.{Place}
 use Rattle.rules.specs.Basics.{if_then_else_}
-use Rattle.rules.specs.Meeting.{crossPlus, crossMinus, leftOf, rightOf, oneSide, inLine, oneLine, overlap, meet}
+use Rattle.rules.specs.Meeting.{crossPlus, crossMinus, leftOf, rightOf, oneSide, oneLine, overlap, meet}
 use Rattle.plane.specs.Bools.{both, either, is-false}
-use Rattle.plane.specs.Common.{Common, flip, meet-common}
+use Rattle.plane.specs.Common.{Common, flip}
 
 -- crossPlus p q and crossMinus p q of weighted points depend on the weighted mean alone
 spread⁺ : (p q r s : Place) (C D : ℕ) → C * crossPlus p q r + D * crossPlus p q s ≡ q .x * (C * r .y + D * s .y) + p .x * q .y * (C + D) + p .y * (C * r .x + D * s .x)
@@ -81,6 +80,3 @@ common-meet p q r s w = go (oneLine p q r s)
         (if b then overlap (p .x) (q .x) (r .x) (s .x) && overlap (p .y) (q .y) (r .y) (s .y) else not (oneSide p q r s) && not (oneSide r s p q)) ≡ true
     go true = simp (overlaps _ _ _ _ (p .x) (q .x) (r .x) (s .x) (w .pos) (w .tot) (w .eqx), overlaps _ _ _ _ (p .y) (q .y) (r .y) (s .y) (w .pos) (w .tot) (w .eqy))
     go false = simp (not-oneSide p q r s w, not-oneSide r s p q (flip w))
-
-pub meet-flip : (p q r s : Place) → meet r s p q ≡ false → meet p q r s ≡ false
-meet-flip p q r s h = is-false _ (λ e. true≢false (sym (common-meet r s p q (flip (meet-common p q r s e))) ∙ h))

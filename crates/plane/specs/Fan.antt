@@ -1,17 +1,17 @@
 -- Pieces that leave one point.
 use Prim.Native.Nat.{ℕ, _+_, _*_, _-_, _<_, _≤_}
-use mathlib.Core.Path.{_≡_, refl, ap, sym, _∙_}
+use mathlib.Core.Path.{_≡_, ap, sym}
 use mathlib.Core.Logic.{_≢_}
-use mathlib.Core.Bool.{Bool, true, false}
+use mathlib.Core.Bool.{false}
 use native.Mathlib.Omega.{arith}
-use native.Mathlib.Nat.{eq-of-mul-eq-mul-left, mul-le-mul, mul-le-mul-left, mul-le-mul-right, mul-pos, le-of-lt, add-sub-of-le}
-use native.Mathlib.Decide.{decLt, decLe}
+use native.Mathlib.Nat.{eq-of-mul-eq-mul-left, mul-pos, le-of-lt, add-sub-of-le}
+use native.Mathlib.Decide.{decLt}
 use Rattle.rules.specs.declared.Place.{Place}
 use Rattle.rules.specs.Meeting.{crossPlus, crossMinus, meet}
-use Rattle.plane.specs.Common.{Common, meet-common, flip, swap₁, swap₂}
+use Rattle.plane.specs.Common.{Common, meet-common}
 use Rattle.plane.specs.Exact.{balance, unbalanced}
 use Rattle.plane.specs.Bools.{is-false}
-use Rattle.plane.specs.Apart.{At, OnlyAt, no-common, fa, fb, fy}
+use Rattle.plane.specs.Apart.{OnlyAt}
 
 self : (e p : Place) → crossPlus e p e ≡ crossMinus e p e
 unfolding crossPlus crossMinus
@@ -114,25 +114,3 @@ inner e p r w h k =
       eqx = omega (arith, ap (λ n. n * e .x) z, ap (λ n. n * e .x) (w .tot));
       eqy = omega (arith, ap (λ n. n * e .y) z, ap (λ n. n * e .y) (w .tot));
     }
-
--- neither far end lies on the other piece
-pub fan-apart : (e p r : Place) → (Common p p e r → ⊥) → (Common r r e p → ⊥) → OnlyAt e e p e r
-fan-apart e p r f b w =
-    elim (decLt 0 (w .B)) [
-      | no h ↦
-          let z : w .B ≡ 0 = omega arith in
-          record { atx = omega (arith, ap (λ n. n * p .x) z, ap (λ n. n * e .x) z); aty = omega (arith, ap (λ n. n * p .y) z, ap (λ n. n * e .y) z) }
-      | yes h ↦
-          absurd
-          (elim (decLe (w .D) (w .B)) [
-            | yes k ↦ f (inner e p r w h k)
-            | no k ↦ b (inner e r p (flip w) (omega arith) (omega arith))
-          ])
-    ]
-
--- the ends of a piece in the other order
-pub only-swap₁ : {e p q r s : Place} → OnlyAt e p q r s → OnlyAt e q p r s
-only-swap₁ f w = let k = f (swap₁ w) in record { atx = omega (arith, k .atx); aty = omega (arith, k .aty) }
-
-pub only-swap₂ : {e p q r s : Place} → OnlyAt e p q r s → OnlyAt e p q s r
-only-swap₂ f w = let k = f (swap₂ w) in record { atx = omega (arith, k .atx); aty = omega (arith, k .aty) }

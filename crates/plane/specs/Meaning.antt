@@ -2,15 +2,15 @@
 use Prim.Native.Nat.{ℕ, _+_, _*_, _-_, _<_, _≤_}
 use mathlib.Core.Path.{_≡_, refl, ap, sym, _∙_, subst}
 use mathlib.Core.Logic.{_≢_, _↔_}
-use mathlib.Core.Bool.{Bool, true, false, not, _&&_, true≢false}
+use mathlib.Core.Bool.{Bool, true, false, _&&_, true≢false}
 use native.Mathlib.Omega.{arith}
 use native.Mathlib.Nat.{eq-of-mul-eq-mul-left, mul-pos, add-sub-of-le}
 use native.Mathlib.Decide.{decLe, decLt, ℕ-discrete}
 use lib.Dec.{eqb}
-use borrow.Author.Tests.{ltb-false, eqb-true, le-ltb, not-true}
+use borrow.Author.Tests.{eqb-true}
 use Rattle.rules.specs.declared.Place.{Place}
 use Rattle.rules.specs.Basics.{if_then_else_}
-use Rattle.rules.specs.Meeting.{crossPlus, crossMinus, leftOf, rightOf, inLine, oneLine, meet, samePlace, onlyIf, meetOnlyAt}
+use Rattle.rules.specs.Meeting.{crossPlus, crossMinus, oneLine, meet, samePlace, onlyIf, meetOnlyAt}
 use Rattle.plane.specs.Bools.{both}
 use Rattle.plane.specs.Aligned.{Aligned, all-four, aligned-test, test-aligned}
 use Rattle.plane.specs.Common.{Common, p-inside, tr, untr, meet-common, flip, swap₂}

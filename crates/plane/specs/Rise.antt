@@ -1,23 +1,17 @@
 -- L3. A boundary whose x - y and x + y grow between neighbours: they grow by at least the distance in the list.
-use Prim.Native.Nat.{ℕ, zero, suc, pred, _+_, _*_, _<_, _≤_}
-use mathlib.Core.Path.{_≡_, refl, ap, sym, _∙_}
+use Prim.Native.Nat.{ℕ, zero, suc, pred, _+_, _<_, _≤_}
 use mathlib.Core.List.{List, [], _∷_}
 use native.Mathlib.Omega.{arith}
 use native.Mathlib.Nat.{add-suc, add-zero, zero-add, suc-add, not-suc-le-zero}
 use lib.ListN.{length, getD}
 use Rattle.rules.specs.declared.Place.{Place}
-use Rattle.plane.specs.Apart.{Fun, up, dn, Lt, fa, fb}
+use Rattle.plane.specs.Apart.{Fun, up, dn, Lt}
 
 -- as a function of the index
 pub rise-fun : (f : Fun) (g : ℕ → Place) (m : ℕ) → ((i : ℕ) → suc i < m → Lt f (g i) (g (suc i))) → (i k : ℕ) → i + k < m →
     up f (g i) + dn f (g (i + k)) + k ≤ up f (g (i + k)) + dn f (g i)
 rise-fun f g m h i zero l = rw (add-zero i) (omega arith)
 rise-fun f g m h i (suc k) l = rw (add-suc i k) (omega (arith, rise-fun f g m h i k (omega arith), h (i + k) (omega (arith, add-suc i k))))
-
--- as a list read by index
-pub rise-list : (f : Fun) (o : Place) (l : List Place) → ((i : ℕ) → suc i < length l → Lt f (getD l i o) (getD l (suc i) o)) → (i k : ℕ) → i + k < length l →
-    up f (getD l i o) + dn f (getD l (i + k) o) + k ≤ up f (getD l (i + k) o) + dn f (getD l i o)
-rise-list f o l = rise-fun f (λ i. getD l i o) (length l)
 
 -- as a predicate by recursion over the list
 abbrev pub Rising : Fun → List Place → Type 0

@@ -10,14 +10,14 @@ use borrow.Author.Tests.{le-leb}
 use Rattle.rules.specs.declared.Place.{Place}
 use Rattle.rules.specs.Points.{Drawing, placeOf, lineAt}
 use Rattle.rules.specs.Meeting.{crossPlus, crossMinus}
-use Rattle.rules.specs.Demand.{endsAt, towards, degree, dotPlus, dotMinus, crossSize, wideApart}
+use Rattle.rules.specs.Demand.{towards, dotPlus, dotMinus, crossSize, wideApart}
 use Rattle.net.specs.Angles.{Dir, dot⁺, dot⁻, cross⁺, cross⁻, Wide, dull, left, right}
 use Rattle.net.specs.Aims.{Heads, wide}
 use Rattle.net.specs.Signs.{cross-at, dot-at}
 use Rattle.net.specs.Degs.{deg}
 use Rattle.promise.specs.Nets.{netOf}
 use Rattle.promise.specs.Sound.{Sound}
-use Rattle.promise.specs.Promise.{IsLine, Angled}
+use Rattle.promise.specs.Promise.{Angled}
 use Rattle.promise.specs.Leaving.{leaving, leaving-heads, end-placed}
 use Rattle.promise.specs.Degree.{degree-is}
 

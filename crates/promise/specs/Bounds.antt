@@ -10,11 +10,9 @@ use Rattle.rules.specs.declared.Entry.{Entry}
 use Rattle.rules.specs.declared.Bend.the-variants.{Left, Middle}
 use Rattle.rules.specs.Basics.{if_then_else_, keep}
 use Rattle.rules.specs.Refusals.{good}
-use Rattle.rules.specs.Points.{Drawing, xOf, yOf, dlOf, drOf, hOf, placeOf, m, W, lineAt, start}
+use Rattle.rules.specs.Points.{Drawing, xOf, yOf, dlOf, drOf, hOf, m, W, lineAt, start}
 use Rattle.rules.specs.Ports.{bendPlace}
 use Rattle.rules.specs.Adding.{addEntries}
-use Rattle.rules.specs.Calls.{drawn}
-use Rattle.rules.specs.Demand.{degree}
 use Rattle.net.specs.Side.{rt, lf}
 use Rattle.net.specs.Bend.{bend}
 use Rattle.net.specs.Frame.{Inside, point-in, spot-in}
@@ -24,7 +22,7 @@ use Rattle.promise.specs.Sound.{Sound}
 use Rattle.promise.specs.Next.{next}
 use Rattle.promise.specs.Border.{m′}
 use Rattle.promise.specs.Opening.{sound-start}
-use Rattle.promise.specs.Accepted.{accepted, after-keeps}
+use Rattle.promise.specs.Accepted.{accepted}
 use Rattle.promise.specs.Degree.{degree-is}
 use Rattle.promise.specs.Spots.{spot-bend}
 use Rattle.promise.specs.Step.{sound-added}
@@ -71,10 +69,6 @@ standing-added d e es t h =
             border = omega (arith, z .1, b, a .run .lr);
           });
     }
-
--- the drawing after any list of calls
-pub standing-drawn : (n : ℕ) → 3 ≤ n → n ≤ 1024 → (calls : List (List ℕ)) → Standing (drawn n calls)
-standing-drawn n low high calls = after-keeps Standing standing-added _ (standing-start n 1 true true true low high) calls
 
 length-keep : {A : Type 0} (t : A → Bool) (l : List A) → length (keep t l) ≤ length l
 length-keep t [] = omega arith

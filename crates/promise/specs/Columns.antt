@@ -14,7 +14,7 @@ use Rattle.rules.specs.declared.Entry.{Entry}
 use Rattle.rules.specs.Basics.{if_then_else_, indexOf, snoc}
 use Rattle.rules.specs.Points.{Drawing, w, m}
 use Rattle.rules.specs.Moving.{climb, column}
-use Rattle.rules.specs.Adding.{spread, inside, owned}
+use Rattle.rules.specs.Adding.{inside, owned}
 use Rattle.promise.specs.Nets.{netOf}
 use Rattle.promise.specs.Sound.{Sound, Sized, Rooted, Root}
 use Rattle.promise.specs.Next.{IsRun, next}

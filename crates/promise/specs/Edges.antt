@@ -7,7 +7,7 @@ use native.Mathlib.Omega.{arith}
 use borrow.Author.Tests.{eq-eqb}
 use Rattle.rules.specs.declared.Line.{Line}
 use Rattle.rules.specs.declared.Place.{Place}
-use Rattle.rules.specs.Points.{Drawing, xOf, w, m, lineAt}
+use Rattle.rules.specs.Points.{Drawing, w, m, lineAt}
 use Rattle.rules.specs.Ports.{freePiece}
 use Rattle.rules.specs.Demand.{endsAt, joins, slanted}
 use Rattle.plane.specs.Bools.{both}

@@ -3,7 +3,7 @@ use Prim.Native.Nat.{ℕ, suc, pred, _<_, _≤_}
 use mathlib.Core.Path.{_≡_, refl, ap, sym, _∙_}
 use mathlib.Core.Logic.{_≢_}
 use mathlib.Core.Bool.{Bool, true, false}
-use mathlib.Core.List.{List, [], _∷_}
+use mathlib.Core.List.{List}
 use native.Mathlib.Omega.{arith}
 use native.Mathlib.Decide.{decLt}
 use lib.ListN.{length, getD}
@@ -12,7 +12,7 @@ use Rattle.net.specs.Adds.{Owning}
 use Rattle.rules.specs.declared.Entry.{Entry}
 use Rattle.rules.specs.Basics.{if_then_else_, indexOf, snoc, grow}
 use Rattle.rules.specs.Points.{Drawing, ownerOf, w, m}
-use Rattle.rules.specs.Moving.{climb, movedXs}
+use Rattle.rules.specs.Moving.{climb}
 use Rattle.rules.specs.Adding.{spread, inside, owned, pointsOf, rowHeight}
 use Rattle.promise.specs.Nets.{netOf}
 use Rattle.promise.specs.Sound.{Sound, Sized, Rooted, Root}

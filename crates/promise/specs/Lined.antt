@@ -12,7 +12,7 @@ use borrow.Author.Tests.{ltb-true, ltb-false, ne-eqb, eq-eqb}
 use Rattle.rules.specs.declared.Line.{Line}
 use Rattle.rules.specs.declared.Entry.{Entry}
 use Rattle.rules.specs.declared.Bend.{Bend}
-use Rattle.rules.specs.declared.Bend.the-variants.{Left, Right, Middle}
+use Rattle.rules.specs.declared.Bend.the-variants.{Left, Middle}
 use Rattle.rules.specs.Basics.{nth, grow}
 use Rattle.rules.specs.Adding.{newLines, newBend, middleOf, pointsOf}
 

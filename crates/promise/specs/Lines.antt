@@ -2,7 +2,7 @@
 use Prim.Native.Nat.{ℕ, zero, suc, pred, _+_, _*_, _-_, _/_, _<_, _≤_}
 use mathlib.Core.Path.{_≡_, refl, ap, sym, _∙_}
 use mathlib.Core.Bool.{Bool, true, false}
-use mathlib.Core.List.{List, [], _∷_, _++_}
+use mathlib.Core.List.{List, _++_}
 use native.Mathlib.Omega.{arith}
 use native.Mathlib.Decide.{ℕ-discrete}
 use lib.ListN.{length, getD}
@@ -10,7 +10,7 @@ use Rattle.rules.specs.declared.Entry.{Entry}
 use Rattle.rules.specs.declared.Line.{Line as Drawn}
 use Rattle.rules.specs.declared.Bend.{Bend}
 use Rattle.rules.specs.declared.Bend.the-variants.{Left, Right, Middle, Straight}
-use Rattle.rules.specs.Basics.{nth, snoc, grow}
+use Rattle.rules.specs.Basics.{nth, grow}
 use Rattle.rules.specs.Points.{Drawing, xOf, yOf, dlOf, drOf, w, lineAt}
 use Rattle.rules.specs.Adding.{pointsOf, spread, change, newX, newY, rowHeight, inner, newBend, newLines, middleOf, D}
 use Rattle.rules.specs.Adding.{reaches as test}

@@ -9,8 +9,8 @@ use native.Mathlib.Omega.{arith}
 use lib.ListN.{length, getD}
 use lib.Dec.{leb}
 use Rattle.rules.specs.Basics.{if_then_else_}
-use Rattle.rules.specs.Points.{Drawing, xOf, yOf}
-use Rattle.rules.specs.Moving.{column, movedXs, shift, move}
+use Rattle.rules.specs.Points.{Drawing, xOf}
+use Rattle.rules.specs.Moving.{column, movedXs, shift}
 use Rattle.rules.specs.Adding.{s1, s2, s3, step1, step2, spread}
 use Rattle.net.specs.Amounts.{by, moves}
 
@@ -49,16 +49,7 @@ x-shift d i a xs p h =
     let e : 1 + p ≡ suc p = omega arith in
     getD-movedXs (shift i a d) 1 xs p h ∙ ap (λ n. getD xs p 0 + shift i a d n) e ∙ ap (λ n. getD xs p 0 + n) (if-cond (leb i (column d (suc p))) a)
 
--- The x of a point after a move.
-pub x-move : (i a : ℕ) (d : Drawing) (p : ℕ) → p < length (d .xs) → xOf (move i a d) (suc p) ≡ xOf d (suc p) + by i a (column d (suc p))
-x-move i a d p h = x-shift d i a (d .xs) p h
-
 -- ---- steps 1 to 3
-
--- No step changes a column: moves leave the boundary and the owners as they are. So all three steps move by the same columns.
-pub column-steps : (d : Drawing) (l r p : ℕ) →
-    (column (step1 l d) p ≡ column d p) × (column (step2 r (step1 l d)) p ≡ column d p) × (column (spread l r d) p ≡ column d p)
-column-steps d l r p = (refl, refl, refl)
 
 -- Two amounts over the same columns add up.
 by-add : (i a b c : ℕ) → by i a c + by i b c ≡ by i (a + b) c
@@ -105,10 +96,6 @@ module _ (d : Drawing) (l r a b : ℕ) (xs : List ℕ) (p : ℕ) (h : p < length
         moves-two l r a b (column d (suc p)),
         moves-two l r a (b + c) (column d (suc p)),
       )
-
--- Steps 1 to 3 leave the heights as they are.
-pub y-spread : (d : Drawing) (l r p : ℕ) → yOf (spread l r d) p ≡ yOf d p
-y-spread d l r p = refl
 
 -- Steps 1 to 3 leave the number of x as it is.
 pub length-spread : (d : Drawing) (l r : ℕ) → length (spread l r d .xs) ≡ length (d .xs)

@@ -1,6 +1,5 @@
 -- A drawing of the rules read as a net: points count from 0, and columns are climbed.
-use Prim.Native.Nat.{ℕ, suc, pred, _<_}
-use mathlib.Core.Path.{_≡_}
+use Prim.Native.Nat.{ℕ, suc, pred}
 use lib.ListN.{length}
 use Rattle.rules.specs.declared.Bend.{Bend}
 use Rattle.rules.specs.declared.Bend.the-variants.{Left, Right, Middle, Straight}

@@ -1,10 +1,9 @@
 -- How the lines of a drawing are read in its net: the three places of a line, its ends, and its pieces by its kind.
-use Prim.Native.Nat.{ℕ, zero, suc, pred, _+_, _-_, _*_, _<_, _≤_, min}
+use Prim.Native.Nat.{ℕ, suc, pred, _+_, _-_, _<_}
 use mathlib.Core.Path.{_≡_, refl, sym, ap, _∙_, ap₂, fun-ext}
-use mathlib.Core.Logic.{_≢_, _⊎_, inl, inr, ⊎-map}
+use mathlib.Core.Logic.{_≢_, _⊎_, ⊎-map}
 use mathlib.Core.Bool.{Bool, true, false, false≢true, or-true}
 use native.Mathlib.Omega.{arith}
-use native.Mathlib.Decide.{decLt, ℕ-discrete}
 use borrow.Author.Tests.{eqb-true, eq-eqb}
 use lib.Dec.{eqb}
 use Rattle.rules.specs.declared.Line.{Line}
@@ -12,13 +11,11 @@ use Rattle.rules.specs.declared.Place.{Place}
 use Rattle.rules.specs.declared.Bend.{Bend}
 use Rattle.rules.specs.declared.Bend.the-variants.{Left, Right, Middle, Straight}
 use Rattle.rules.specs.Points.{Drawing, at, xOf, yOf, drOf, placeOf, lineAt}
-use Rattle.rules.specs.Ports.{bendOf, bendPlace, hasPort, portOwner, otherEnd, Piece, portPiece, freePiece}
+use Rattle.rules.specs.Ports.{bendOf, bendPlace, hasPort, portOwner, otherEnd, Piece, freePiece}
 use Rattle.rules.specs.Demand.{endsAt}
 use Rattle.plane.specs.Bools.{either}
-use Rattle.net.specs.Side.{Tie, Side, rt, lf, cols-eq}
-use Rattle.net.specs.Net.{Net, Kind, side, middle, flat, beyond-not}
-use Rattle.net.specs.Inv.{Fits, plain, Inv}
-use Rattle.net.specs.Ports.{aside-of, within-of}
+use Rattle.net.specs.Net.{Net, Kind, side, middle, flat}
+use Rattle.net.specs.Inv.{Inv}
 use Rattle.net.specs.Bend.{Spot, start, bend, end, turn, spot}
 use Rattle.promise.specs.Nets.{kindOf, netOf}
 use Rattle.promise.specs.Promise.{IsLine}
@@ -91,12 +88,6 @@ earlier-of {d} s p e pos el q = unpred (lineAt d e .earlier) p (s .ended .ends e
 pub later-of : {d : Drawing} → Sound d → (p e : ℕ) → 0 < p → IsLine d e → netOf d .v e ≡ pred p → lineAt d e .later ≡ p
 later-of {d} s p e pos el q = unpred (lineAt d e .later) p (s .ended .ends e el .1) pos q
 
--- the line without a port is 1-2
-pub straight-ends : {d : Drawing} → Sound d → (e : ℕ) → IsLine d e → lineAt d e .bend ≡ Straight → (lineAt d e .earlier ≡ 1) × (lineAt d e .later ≡ 2)
-straight-ends s e el q =
-    let z = flat-ends (s .inv) e el (ap kindOf q) in
-    (earlier-of s 1 e (omega arith) el (z .0), later-of s 2 e (omega arith) el (z .1))
-
 -- a line ends at p: p is its later or its earlier end
 pub ends-cases : (p : ℕ) (l : Line) → endsAt p l ≡ true → (l .later ≡ p) ⊎ (l .earlier ≡ p)
 ends-cases p l t = ⊎-map (eqb-true (l .later) p) (eqb-true (l .earlier) p) (either (eqb (l .later) p) (eqb (l .earlier) p) t)
@@ -128,10 +119,6 @@ line-ends v u (Right j) c = (refl, refl)
 line-ends v u (Middle i) c = (refl, refl)
 line-ends v u Straight c = (refl, refl)
 
--- the port's owner
-pub port-owner : (d : Drawing) (e : ℕ) → portOwner (lineAt d e) ≡ byOwner (netOf d .kind e) (lineAt d e .earlier) (lineAt d e .later)
-port-owner d e = let l = lineAt d e in line-ends (l .later) (l .earlier) (l .bend) (l .cut) .0
-
 -- the other end
 pub other-end : (d : Drawing) (e : ℕ) → otherEnd (lineAt d e) ≡ byOwner (netOf d .kind e) (lineAt d e .later) (lineAt d e .earlier)
 other-end d e = let l = lineAt d e in line-ends (l .later) (l .earlier) (l .bend) (l .cut) .1
@@ -142,12 +129,6 @@ by-ap f (side s j) a b = refl
 by-ap f (middle i) a b = refl
 by-ap f flat a b = refl
 
--- the place of the port's owner
-pub owner-place : (d : Drawing) (e : ℕ) → placeOf d (portOwner (lineAt d e)) ≡ spot (netOf d) e (byOwner (netOf d .kind e) start end)
-owner-place d e =
-    ap (placeOf d) (port-owner d e) ∙ by-ap (placeOf d) (netOf d .kind e) (lineAt d e .earlier) (lineAt d e .later) ∙
-    sym (by-ap (spot (netOf d) e) (netOf d .kind e) start end)
-
 -- the place of the other end
 pub other-place : (d : Drawing) (e : ℕ) → placeOf d (otherEnd (lineAt d e)) ≡ spot (netOf d) e (byOwner (netOf d .kind e) end start)
 other-place d e =
@@ -157,11 +138,6 @@ other-place d e =
 -- the piece between two places
 abbrev pub piece : Place → Place → Piece
 piece a b = record { from = a; to = b }
-
--- the port piece
-pub port-piece : {d : Drawing} → Sound d → (e : ℕ) → IsLine d e →
-    portPiece d (lineAt d e) ≡ piece (spot (netOf d) e (byOwner (netOf d .kind e) start end)) (spot (netOf d) e bend)
-port-piece {d} s e el = ap₂ piece (owner-place d e) (sym (spot-bend s e el))
 
 -- the free piece
 pub free-piece : {d : Drawing} → Sound d → (e : ℕ) → IsLine d e →

@@ -1,6 +1,6 @@
 -- "Adding a point", with the order of tests that "Refused because of the state" fixes.
-use Prim.Native.Nat.{ℕ, zero, suc, _+_, _-_, _*_, _/_, _%_}
-use mathlib.Core.Bool.{Bool, true, false, not, _&&_, _||_}
+use Prim.Native.Nat.{ℕ, suc, _+_, _-_, _*_, _/_, _%_}
+use mathlib.Core.Bool.{Bool, true, not, _&&_, _||_}
 use mathlib.Core.List.{List, [], _∷_, _++_, tail, map}
 use lib.ListN.{length, take, drop}
 use lib.Dec.{leb, ltb, eqb}

@@ -1,6 +1,6 @@
 -- "What demand 3 means": the words of the promise. Differences are compared as sums.
 use Prim.Native.Nat.{ℕ, _+_, _-_, _*_}
-use mathlib.Core.Bool.{Bool, true, false, not, _&&_, _||_}
+use mathlib.Core.Bool.{Bool, not, _&&_, _||_}
 use mathlib.Core.List.{List, [], _∷_}
 use lib.ListN.{length}
 use lib.Dec.{leb, ltb, eqb}
@@ -8,7 +8,7 @@ use Rattle.rules.specs.declared.Line.{Line}
 use Rattle.rules.specs.declared.Place.{Place}
 use Rattle.rules.specs.Basics.{if_then_else_, keep, allOf, anyOf}
 use Rattle.rules.specs.Points.{Drawing, placeOf, W}
-use Rattle.rules.specs.Ports.{bendPlace, hasPort, portOwner, otherEnd, Piece, freePiece, pieces}
+use Rattle.rules.specs.Ports.{bendPlace, hasPort, portOwner, Piece, freePiece, pieces}
 use Rattle.rules.specs.Meeting.{crossPlus, crossMinus, meet, samePlace, meetOnlyAt}
 
 -- the line ends at point p

@@ -1,6 +1,6 @@
 -- "Drawing file, finished drawings only": 44 48, n, s, width, height; points; lines; 45 4E.
 use Prim.Native.Nat.{ℕ, zero, suc, _-_, _*_, max}
-use mathlib.Core.Bool.{Bool, not, _&&_}
+use mathlib.Core.Bool.{not, _&&_}
 use mathlib.Core.List.{List, [], _∷_, _++_}
 use lib.ListN.{getD}
 use lib.Dec.{eqb, ltb}
@@ -13,7 +13,7 @@ use Rattle.rules.specs.Refusals.{Result, good, refused, _>>_, _>>=_, ref
 use Rattle.rules.specs.Points.{Drawing, W}
 use Rattle.rules.specs.Ports.{bendPlace}
 use Rattle.rules.specs.Adding.{addEntries}
-use Rattle.rules.specs.Records.{Found, Several, several, readRecord, readEnd, fromStart, written, drawingHead, pointPlace, lineShape, endShape}
+use Rattle.rules.specs.Records.{Found, several, readRecord, readEnd, fromStart, written, drawingHead, pointPlace, lineShape, endShape}
 use Rattle.rules.specs.OrderFile.{startTest, startWith, readOrder, writeOrder}
 
 -- ---- writing: "Every length and coordinate is written times s."

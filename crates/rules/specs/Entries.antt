@@ -1,6 +1,6 @@
 -- "An entry's low 15 bits are an earlier point, its top bit says guide (a line that isn't cut)."
 use Prim.Native.Nat.{ℕ, _+_, _%_}
-use mathlib.Core.Bool.{Bool, true, false, not}
+use mathlib.Core.Bool.{not}
 use lib.Dec.{leb}
 use Rattle.rules.specs.declared.Entry.{Entry}
 use Rattle.rules.specs.Basics.{if_then_else_}

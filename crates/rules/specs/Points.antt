@@ -1,5 +1,5 @@
 -- "Points, boundary, owners": the drawing as the rules see it, and opening.
-use Prim.Native.Nat.{ℕ, _+_}
+use Prim.Native.Nat.{ℕ}
 use mathlib.Core.Bool.{Bool, true, false}
 use mathlib.Core.List.{List, [], _∷_}
 use lib.ListN.{length, getD}

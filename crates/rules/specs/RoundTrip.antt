@@ -4,7 +4,7 @@ use mathlib.Core.Path.{_≡_, refl, ap, sym, _∙_}
 use mathlib.Core.Bool.{Bool, true, false, not}
 use mathlib.Core.List.{List, [], _∷_, _++_}
 use native.Mathlib.Omega.{arith}
-use lib.ListN.{length, drop, length-append}
+use lib.ListN.{length, length-append}
 use lib.Seq.{drop-at}
 use lib.Dec.{leb, eqb}
 use borrow.Author.Tests.{le-leb, lt-leb, leb-true, leb-false, le-ltb, eq-eqb}
@@ -13,7 +13,7 @@ use Rattle.rules.specs.declared.Refusal.the-variants.{WrongMark}
 use Rattle.rules.specs.Basics.{if_then_else_}
 use Rattle.rules.specs.Refusals.{Result, good, _>>=_, _>>_, refuseIf}
 use Rattle.rules.specs.Entries.{entryOf, wordOf}
-use Rattle.rules.specs.Records.{Size, plain, counted, Shape, Cursor, Found, bytesOf, sized, written, wordsIn, wordsAt, first, restOf, readRecord}
+use Rattle.rules.specs.Records.{Size, plain, counted, Shape, Found, bytesOf, sized, written, wordsIn, wordsAt, first, restOf, readRecord}
 
 -- an entry, written and read
 pub entry-back : (e : Entry) → e .point < 32768 → entryOf (wordOf e) ≡ e

@@ -3,10 +3,10 @@ use Prim.Native.Nat.{ℕ, zero, suc, _<_, _≤_, _+_}
 use mathlib.Core.Path.{_≡_, refl}
 use mathlib.Core.Bool.{Bool}
 use native.Mathlib.Omega.{arith}
-use lib.ListN.{length, getD, set, replicate, length-set, length-replicate}
+use lib.ListN.{getD}
 use Rattle.rules.specs.Entries.{entryOf}
 use Rattle.rules.specs.Points.{Drawing, xOf, ownerOf, w, lineAt, start}
-use Rattle.links.specs.Arrays.{Arrays, Sized, Stores, atPoint, bendCode}
+use Rattle.links.specs.Arrays.{Sized, Stores, atPoint, bendCode}
 use Rattle.links.specs.Opening.{openArrays, openCounts}
 
 module _ (n s : ℕ) (c1 c2 c3 : Bool) (a b c : ℕ) where

@@ -19,7 +19,7 @@ use Rattle.links.specs.Arrays.{Arrays, Stores, atPoint}
 use Rattle.links.specs.Placing.{entryPoint, way, portReaches, changeFrom, allReachFrom, innerCount}
 use Rattle.links.specs.Judging.{passes}
 use Rattle.links.specs.Storing.{spotFor, changeFor, judged}
-use Rattle.net.specs.Amounts.{moves, Shift, none, some, all, shift}
+use Rattle.net.specs.Amounts.{Shift, none, some, all, shift}
 use Rattle.promise.specs.Sound.{Sound}
 use Rattle.promise.specs.Next.{IsRun}
 use Rattle.promise.specs.Moved.{amount1, amount2}

@@ -3,13 +3,13 @@ use Prim.Native.Nat.{ℕ, zero, suc, pred, _+_, _-_, _<_, _≤_}
 use mathlib.Core.Path.{_≡_, refl, sym, ap, _∙_}
 use mathlib.Core.List.{List, [], _∷_, map}
 use native.Mathlib.Omega.{arith}
-use lib.ListN.{length, getD, take, length-map, length-take}
+use lib.ListN.{length, getD, take, length-map}
 use lib.Seq.{getD-take}
-use Rattle.rules.specs.Points.{Drawing, xOf, yOf, dlOf, drOf, hOf, ownerOf, w}
+use Rattle.rules.specs.Points.{Drawing, xOf, yOf, dlOf, drOf, ownerOf, w}
 use Rattle.rules.specs.Entries.{entryOf}
 use Rattle.rules.specs.Adding.{pointsOf}
 use Rattle.links.specs.declared.Counts.{Counts}
-use Rattle.links.specs.Arrays.{Arrays, Sized, Stores, atPoint}
+use Rattle.links.specs.Arrays.{Arrays, Stores, atPoint}
 use Rattle.links.specs.Placing.{entryPoint, way}
 use Rattle.promise.specs.Sound.{Sound}
 use Rattle.promise.specs.Next.{IsRun}
@@ -52,14 +52,6 @@ module _ {d : Drawing} {a : Arrays} {c : Counts} (t : Stores d a c) where
   pub dr-at : (p : ℕ) → 0 < p → p ≤ d .k → atPoint (a .drs) p ≡ drOf d p
   dr-at = front (d .k) (a .drs) (d .drs) (t .drs)
 
-  -- h of a placed point.
-  pub h-at : (p : ℕ) → 0 < p → p ≤ d .k → atPoint (a .hs) p ≡ hOf d p
-  h-at = front (d .k) (a .hs) (d .hs) (t .hs)
-
-  -- The arrays have room for 1,024 points, so no more are placed.
-  pub k-most : Sized a → Sound d → d .k ≤ 1024
-  k-most z s = omega (arith, ap length (t .owner), length-take (d .k) (a .owner), z .owner, s .sized .owners)
-
 -- ---- a run
 
 module _ {d : Drawing} (es : List ℕ) {l r : ℕ} (q : IsRun d (map entryOf es) l r) where
@@ -67,21 +59,9 @@ module _ {d : Drawing} (es : List ℕ) {l r : ℕ} (q : IsRun d (map entryOf es)
   pub run-size : l + length es ≡ suc r
   run-size = omega (arith, q .size, length-map es entryOf)
 
-  -- The last entry's index is r - l.
-  pub last-index : length es - 1 ≡ r - l
-  last-index = omega (arith, run-size)
-
   -- Entry i is boundary point l + i.
   pub entry-is : (i : ℕ) → l + i ≤ r → entryPoint es i ≡ w d (l + i)
   entry-is i h = sym (entry-point es i) ∙ q .point i h
-
-  -- The first entry is wl.
-  pub first-is : entryPoint es 0 ≡ w d l
-  first-is = let e : l + 0 ≡ l = omega arith in entry-is 0 (omega (arith, q .lr)) ∙ ap (w d) e
-
-  -- The last entry is wr.
-  pub last-is : entryPoint es (length es - 1) ≡ w d r
-  last-is = let e : l + (length es - 1) ≡ r = omega (arith, run-size, q .lr) in entry-is (length es - 1) (omega arith) ∙ ap (w d) e
 
 module _ {d : Drawing} (es : List ℕ) {l r : ℕ} (s : Sound d) (q : IsRun d (map entryOf es) l r) where
   -- A point of the run is placed.

@@ -25,7 +25,7 @@ use Rattle.promise.specs.Within.{narrow}
 use Rattle.promise.specs.Moved.{amount1, amount2}
 use Rattle.promise.specs.Halves.{one-or-two, odd-most, aOf, bOf}
 use Rattle.promise.specs.Places.{amount1-range, exact₄, even, left-x, right-x, new-left, new-right}
-use Rattle.stored.specs.Reading.{y-at, dl-at, dr-at, run-size, last-index, run-low, entry-says, first-says, last-says, way-is, far-is}
+use Rattle.stored.specs.Reading.{y-at, dl-at, dr-at, run-size, run-low, entry-says, first-says, last-says, way-is, far-is}
 
 -- ---- plain numbers: wl is at (x, y) and wr at (z, t), z′ once it has moved; e is what step 3 adds
 
@@ -126,10 +126,6 @@ module _ {d : Drawing} {a : Arrays} {c : Counts} (es : List ℕ) {l r : ℕ} (t 
 
   pub rise-r : yOf d (w d r) < farOf a es + yOf d (w d l)
   rise-r = omega (arith, beyond-a (chain (s .inv .core .points) l r (q .lr) (q .rm) .0), far-is es t s q)
-
-  -- The same, with the last entry by its index in the run.
-  pub rise-run : (yOf d (w d l) ≤ way (a .gap) es (r - l) + yOf d (w d r)) × (yOf d (w d r) ≤ way (a .gap) es (r - l) + yOf d (w d l))
-  rise-run = let e = ap (way (a .gap) es) (last-index es q) in (omega (arith, e, rise-l), omega (arith, e, rise-r))
 
   -- wr moves by the amounts of steps 1 to 3.
   moved-r : xOf (spread l r d) (w d r) ≡ xOf d (w d r) + (stepOf (drOf d (w d l)) + (stepOf (dlOf d (w d r)) + s3 l r (step2 r (step1 l d))))
