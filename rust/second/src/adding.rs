@@ -155,23 +155,21 @@ impl Drawing {
     }
 
     /// "To move a boundary point is to move all it owns, and what those own", for the boundary
-    /// points from the given index up to wm.
+    /// points from the given index up to wm. An owner is later than what it owns, so the latest
+    /// point is decided first.
     fn move_right(&mut self, from: usize, by: i64) {
-        let moving: Vec<usize> = (0..self.points.len())
-            .filter(|&index| self.boundary[from..].contains(&self.climb(index as u16 + 1)))
-            .collect();
-        for index in moving {
-            self.points[index].place.x += by;
+        let mut moves = vec![false; self.points.len()];
+        for &point in &self.boundary[from..] {
+            moves[usize::from(point) - 1] = true;
         }
-    }
-
-    /// The boundary point that a point moves with: its owner's owner and so on, up to the boundary.
-    fn climb(&self, point: u16) -> u16 {
-        let mut top = point;
-        while let Some(owner) = self.point(top).owner {
-            top = owner;
+        for (index, point) in self.points.iter_mut().enumerate().rev() {
+            if let Some(owner) = point.owner {
+                moves[index] = moves[usize::from(owner) - 1];
+            }
+            if moves[index] {
+                point.place.x += by;
+            }
         }
-        top
     }
 
     /// Step 5 and 25: the index of the middle port that each inner point takes.

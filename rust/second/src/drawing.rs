@@ -144,20 +144,6 @@ impl Line {
             Bend::Middle(_) => Some(self.later),
         }
     }
-
-    /// Whether the line ends at the point.
-    pub fn ends_at(&self, point: u16) -> bool {
-        self.later == point || self.earlier == point
-    }
-
-    /// The end of the line that isn't the given end.
-    pub fn other_end(&self, point: u16) -> u16 {
-        if self.later == point {
-            self.earlier
-        } else {
-            self.later
-        }
-    }
 }
 
 impl Drawing {
@@ -224,7 +210,10 @@ impl Drawing {
     /// such point.
     pub fn cut_line_at(&self, point: u16) -> Result<Option<usize>, Refusal> {
         self.known_point(point)?;
-        Ok(self.lines.iter().position(|l| l.cut && l.ends_at(point)))
+        Ok(self
+            .lines
+            .iter()
+            .position(|l| l.cut && [l.later, l.earlier].contains(&point)))
     }
 
     /// "23 no such point": only points 1 to k are there.

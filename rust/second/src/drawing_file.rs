@@ -4,14 +4,26 @@
 
 use crate::drawing::{open, Drawing, Place};
 use crate::entry::Entry;
+use crate::promise::{Laid, Layout};
 use crate::records::{put, Reader, DRAWING_HEADER, DRAWING_LINE, DRAWING_POINT, END};
 use crate::refusal::{Refusal, NOT_ITS_DRAWING, OUT_OF_RANGE, UNFINISHED};
 
-/// What a line record says about the order.
+/// What a line record says.
 struct LineRecord {
     place: usize,
     later: u16,
     entry: Entry,
+    bend: [u16; 2],
+}
+
+/// What the records of a file say, before 4 to 9 and 11 are judged.
+struct Records {
+    /// Opened for the header's n, with its s.
+    opened: Drawing,
+    points: Vec<[u16; 2]>,
+    lines: Vec<LineRecord>,
+    /// The offset of the end record.
+    end: usize,
 }
 
 /// "Every length and coordinate is written times s."
@@ -57,21 +69,73 @@ pub fn write(drawing: &Drawing) -> Result<Vec<u8>, Refusal> {
 /// "1, 2, 3 on the header (s from 1 to 8), 1 and 2 on all other records, 10, then 4 to 9 on each
 /// point's group of lines in turn, then 11"
 pub fn read(bytes: &[u8]) -> Result<Drawing, Refusal> {
-    let mut reader = Reader::new(bytes);
-    let mut drawing = read_header(&mut reader)?;
-    for _ in 0..drawing.n {
-        read_point(&mut reader)?;
-    }
-    let lines = (0..3 * drawing.n - 6)
-        .map(|_| read_line(&mut reader))
-        .collect::<Result<Vec<LineRecord>, Refusal>>()?;
-    let end = reader.mark(END)?;
-    reader.end()?;
-    list_groups(&mut drawing, &lines, end)?;
+    let records = read_records(bytes)?;
+    let mut drawing = records.opened;
+    list_groups(&mut drawing, &records.lines, records.end)?;
     match first_difference(bytes, &write(&drawing)?) {
         Some(place) => Err(Refusal::new(NOT_ITS_DRAWING, place)),
         None => Ok(drawing),
     }
+}
+
+/// The layout of a finished drawing by the numbers of its file alone; nothing is drawn again. The
+/// first and the last line of a point bend at a port of the earlier point, the others at one of the
+/// later point; the boundary is 1, n, 2.
+pub fn layout(bytes: &[u8]) -> Result<Layout, Refusal> {
+    let records = read_records(bytes)?;
+    let Drawing { n, s, .. } = records.opened;
+    let places = records.points.iter().map(|&xy| unscaled(xy, s));
+    let mut lines = Vec::new();
+    for group in records.lines.chunk_by(|one, two| one.later == two.later) {
+        for (index, line) in group.iter().enumerate() {
+            let outer = index == 0 || index == group.len() - 1;
+            let earlier = line.entry.point;
+            lines.push(Laid {
+                later: line.later,
+                earlier,
+                port_owner: match line.later {
+                    2 => None,
+                    _ if outer => Some(earlier),
+                    later => Some(later),
+                },
+                bend: unscaled(line.bend, s)?,
+            });
+        }
+    }
+    Ok(Layout {
+        boundary: vec![1, n, 2],
+        places: places.collect::<Result<Vec<Place>, Refusal>>()?,
+        lines,
+    })
+}
+
+/// A place in grid units from written coordinates; 11 if they aren't multiples of s.
+fn unscaled(written: [u16; 2], s: u16) -> Result<Place, Refusal> {
+    if written.iter().any(|coordinate| coordinate % s != 0) {
+        return Err(Refusal::new(NOT_ITS_DRAWING, 0));
+    }
+    let [x, y] = written.map(|coordinate| i64::from(coordinate / s));
+    Ok(Place { x, y })
+}
+
+/// "1, 2, 3 on the header (s from 1 to 8), 1 and 2 on all other records, 10"
+fn read_records(bytes: &[u8]) -> Result<Records, Refusal> {
+    let mut reader = Reader::new(bytes);
+    let opened = read_header(&mut reader)?;
+    let points = (0..opened.n)
+        .map(|_| read_point(&mut reader))
+        .collect::<Result<Vec<[u16; 2]>, Refusal>>()?;
+    let lines = (0..3 * opened.n - 6)
+        .map(|_| read_line(&mut reader))
+        .collect::<Result<Vec<LineRecord>, Refusal>>()?;
+    let end = reader.mark(END)?;
+    reader.end()?;
+    Ok(Records {
+        opened,
+        points,
+        lines,
+        end,
+    })
 }
 
 /// "1, 2, 3 on the header (s from 1 to 8)"; width and height are judged by 11.
@@ -90,11 +154,9 @@ fn read_header(reader: &mut Reader) -> Result<Drawing, Refusal> {
 }
 
 /// "per point 50 4F, x, y"; x and y are judged by 11.
-fn read_point(reader: &mut Reader) -> Result<(), Refusal> {
+fn read_point(reader: &mut Reader) -> Result<[u16; 2], Refusal> {
     reader.mark(DRAWING_POINT)?;
-    reader.number()?;
-    reader.number()?;
-    Ok(())
+    Ok([reader.number()?, reader.number()?])
 }
 
 /// "On reading, the earlier point is a plain 16-bit number without a guide bit, and any last field
@@ -103,13 +165,13 @@ fn read_line(reader: &mut Reader) -> Result<LineRecord, Refusal> {
     let place = reader.mark(DRAWING_LINE)?;
     let later = reader.number()?;
     let point = reader.number()?;
-    reader.number()?;
-    reader.number()?;
+    let bend = [reader.number()?, reader.number()?];
     let guide = reader.number()? == 0;
     Ok(LineRecord {
         place,
         later,
         entry: Entry { point, guide },
+        bend,
     })
 }
 

@@ -1,6 +1,7 @@
 //! Entries of point records and of adding calls.
 
-const GUIDE_BIT: u16 = 0x8000;
+/// The top bit of an entry.
+pub(crate) const GUIDE_BIT: u16 = 0x8000;
 
 /// An earlier neighbour and whether the line to it is a guide.
 ///

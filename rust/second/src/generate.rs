@@ -1,8 +1,10 @@
-//! Orders for tests: random ones from fixed seeds, and every order of a few points.
+//! Orders and lists of calls for tests: random ones from fixed seeds, and every order of a few points.
 
-use crate::records::{put, END, ORDER_HEADER, ORDER_POINT, SCALE};
-
-const GUIDE: u16 = 0x8000;
+use crate::drawing::{open, Drawing};
+use crate::entry::{Entry, GUIDE_BIT};
+use crate::records::{
+    put, DRAWING_HEADER, DRAWING_LINE, DRAWING_POINT, END, ORDER_HEADER, ORDER_POINT, SCALE,
+};
 
 /// An xorshift generator; the same seed gives the same numbers.
 #[derive(Clone, Debug)]
@@ -92,6 +94,42 @@ impl Order {
         put(&mut bytes, END, &[]);
         bytes
     }
+
+    /// The order of the first n points, n from 3 to this order's n; the last run is made the whole
+    /// boundary.
+    pub fn shortened(&self, n: u16) -> Order {
+        let mut boundary = vec![1, 3, 2];
+        let mut calls: Vec<Vec<u16>> = Vec::new();
+        for (point, call) in (4..n).zip(&self.calls) {
+            let first = Entry::split(call[0]).point;
+            let l = boundary.iter().position(|&w| w == first).unwrap_or(0);
+            cover(&mut boundary, l, l + call.len() - 1, point);
+            calls.push(call.clone());
+        }
+        if n > 3 {
+            calls.push(boundary);
+        }
+        Order {
+            n,
+            calls,
+            ..self.clone()
+        }
+    }
+
+    /// The same order with all lines cut and scale 1.
+    pub fn plain(&self) -> Order {
+        let cut = |&entry: &u16| entry & !GUIDE_BIT;
+        Order {
+            n: self.n,
+            s: 1,
+            opening: self.opening.map(|entry| cut(&entry)),
+            calls: self
+                .calls
+                .iter()
+                .map(|call| call.iter().map(cut).collect())
+                .collect(),
+        }
+    }
 }
 
 /// A random order of n points in a style, n from 3 to 1,024, with guides at random and a scale from
@@ -118,6 +156,31 @@ pub fn order(n: u16, style: Style, random: &mut Random) -> Order {
         n,
         s: random.between(1, 8) as u16,
         opening,
+        calls,
+    }
+}
+
+/// The order that bytes choose, up to 1,024 points: two bytes a point, the first for the start of its
+/// run, the second for its length, with a guide to each end for the top bit of either.
+pub fn order_by(choices: &[u8]) -> Order {
+    let mut boundary = vec![1, 3, 2];
+    let mut calls = Vec::new();
+    for (point, choice) in (4..1024).zip(choices.chunks_exact(2)) {
+        let [left, right] = [choice[0], choice[1]].map(|byte| usize::from(byte & 0x7F));
+        let most = boundary.len() - 1;
+        let l = left % most;
+        let r = l + 1 + right % (most - l);
+        let mut entries = boundary[l..=r].to_vec();
+        entries[0] |= u16::from(choice[0] >> 7) << 15;
+        entries[r - l] |= u16::from(choice[1] >> 7) << 15;
+        calls.push(entries);
+        cover(&mut boundary, l, r, point);
+    }
+    calls.push(boundary);
+    Order {
+        n: calls.len() as u16 + 3,
+        s: 1 + u16::from(choices.last().map_or(0, |byte| byte % 8)),
+        opening: [1, 1, 2],
         calls,
     }
 }
@@ -155,11 +218,63 @@ fn crowded_run(boundary: &[u16], crowded: u16, random: &mut Random) -> (usize, u
     }
 }
 
+/// A random list of adding calls in a style for n points, n from 3 to 1,024, with refused calls
+/// among them. It may stop before the drawing is finished, and may go on after.
+pub fn calls(n: u16, style: Style, random: &mut Random) -> Vec<Vec<u16>> {
+    let mut drawing = open(n).expect("n from 3 to 1,024");
+    let crowded = random.between(1, 3) as u16;
+    let guides_in_8 = random.below(9);
+    let wrong_in_8 = random.below(7);
+    let most = random.below(4 * usize::from(n));
+    let mut calls = Vec::new();
+    let mut after = random.below(4);
+    while calls.len() < most && after > 0 {
+        let whole = drawing.k() + 1 == n && random.below(4) > 0;
+        let style = if whole { Style::Whole } else { style };
+        let (l, r) = run(&drawing.boundary, style, crowded, random);
+        let mut entries = drawing.boundary[l..=r].to_vec();
+        if random.below(8) < wrong_in_8 {
+            spoil(&mut entries, &drawing, random);
+        }
+        guides(&mut entries, guides_in_8, random);
+        let finished = drawing.is_finished();
+        let accepted = drawing.add(&entries).is_ok();
+        if finished && !accepted {
+            after -= 1;
+        }
+        calls.push(entries);
+    }
+    calls
+}
+
+/// Changes the entries of a call so that most calls are refused, each number in turn.
+fn spoil(entries: &mut Vec<u16>, drawing: &Drawing, random: &mut Random) {
+    let at = random.below(entries.len());
+    let other = random.below(entries.len());
+    match random.below(10) {
+        0 => entries.truncate(random.below(2)),
+        1 => entries.swap(at, other),
+        2 => entries.insert(at, entries[other]),
+        3 => entries[at] = 0,
+        4 => entries[at] = drawing.k() + 1,
+        5 => entries[at] = random.between(1, usize::from(drawing.k())) as u16,
+        6 => entries[at] = random.number() as u16,
+        7 => entries.reverse(),
+        8 => {
+            entries.remove(at);
+        }
+        _ => {
+            let length = random.below(9);
+            *entries = (0..length).map(|_| random.below(12) as u16).collect();
+        }
+    }
+}
+
 /// Sets the guide bit of each entry in so many of eight cases.
 fn guides(entries: &mut [u16], guides_in_8: usize, random: &mut Random) {
     for entry in entries {
         if random.below(8) < guides_in_8 {
-            *entry |= GUIDE;
+            *entry |= GUIDE_BIT;
         }
     }
 }
@@ -168,6 +283,26 @@ fn guides(entries: &mut [u16], guides_in_8: usize, random: &mut Random) {
 /// between wl and wr.
 fn cover(boundary: &mut Vec<u16>, l: usize, r: usize, point: u16) {
     boundary.splice(l + 1..r, [point]);
+}
+
+/// The offsets of the records' marks of an accepted order or drawing file, the last one that of the
+/// end record.
+pub fn record_places(bytes: &[u8]) -> Vec<usize> {
+    let number = |at: usize| usize::from(u16::from_be_bytes([bytes[at], bytes[at + 1]]));
+    let mut places = Vec::new();
+    let mut at = 0;
+    while at < bytes.len() {
+        places.push(at);
+        at += match [bytes[at], bytes[at + 1]] {
+            ORDER_HEADER | SCALE => 4,
+            ORDER_POINT => 4 + 2 * number(at + 2),
+            DRAWING_HEADER => 10,
+            DRAWING_POINT => 6,
+            DRAWING_LINE => 12,
+            _ => 2,
+        };
+    }
+    places
 }
 
 /// Every order of n points, n at least 3, by every choice of runs; all lines cut, scale 1.
@@ -220,6 +355,49 @@ mod tests {
         let make = |seed| order(30, Style::Mixed, &mut Random::new(seed)).bytes();
         assert_eq!(make(5), make(5));
         assert_ne!(make(5), make(6));
+    }
+
+    // The first points of an order are an order, and so is the order without guides and scale.
+    #[test]
+    fn shorter_and_plain_orders_are_accepted() {
+        for style in STYLES {
+            let order = order(40, style, &mut Random::new(40));
+            assert_eq!(order.shortened(40).plain(), order.plain());
+            for n in 3..=40 {
+                let drawing = crate::order_file::read(&order.shortened(n).bytes()).unwrap();
+                assert_eq!((drawing.n, drawing.s), (n, order.s));
+            }
+            let plain = crate::order_file::read(&order.plain().bytes()).unwrap();
+            assert!(plain.s == 1 && plain.lines.iter().all(|line| line.cut));
+        }
+    }
+
+    // Any bytes choose an accepted order.
+    #[test]
+    fn bytes_choose_orders() {
+        let mut random = Random::new(3);
+        for length in (0..50).chain([500, 2039, 2040, 2041, 3000]) {
+            let choices: Vec<u8> = (0..length).map(|_| random.number() as u8).collect();
+            let drawing = crate::order_file::read(&order_by(&choices).bytes()).unwrap();
+            assert_eq!(usize::from(drawing.n), (length / 2).min(1020) + 4);
+        }
+    }
+
+    // Lists of calls meet every refusal of adding but 25, and some finish their drawing.
+    #[test]
+    fn lists_of_calls_are_refused_in_all_ways() {
+        let mut seen = std::collections::BTreeSet::new();
+        let mut random = Random::new(1);
+        for style in STYLES {
+            for n in (3..40).chain(3..40) {
+                let mut drawing = open(n).unwrap();
+                for call in calls(n, style, &mut random) {
+                    seen.extend(drawing.add(&call).err().map(|refusal| refusal.number));
+                }
+                seen.extend(drawing.is_finished().then_some(0));
+            }
+        }
+        assert!(seen.into_iter().eq([0, 5, 6, 7, 8, 9, 21]));
     }
 
     // Each style gives accepted orders, and all scales occur.

@@ -1,7 +1,10 @@
 //! A drawing as an SVG picture for a planner.
 
+use std::f64::consts::TAU;
+
 use crate::drawing::{Bend, Drawing, Line, Place};
 use crate::drawing_file::written;
+use crate::promise::Layout;
 
 /// Picture units per grid unit.
 const UNIT: f64 = 24.0;
@@ -9,6 +12,8 @@ const UNIT: f64 = 24.0;
 const MARGIN: f64 = 48.0;
 /// Half the length of the tick at a bend.
 const TICK: f64 = 4.0;
+/// From a point to the middle of its number.
+const NUMBER: f64 = 11.0;
 
 const STYLE: &str = "\
 .frame{fill:none;stroke:#bbbbbb;stroke-width:1}\
@@ -17,13 +22,16 @@ const STYLE: &str = "\
 .tick{stroke:#c03030;stroke-width:1.2}\
 .point{fill:#202020}\
 text{font-family:sans-serif}\
-.number{font-size:10px;fill:#a00000;stroke:#ffffff;stroke-width:2.5px;paint-order:stroke}\
+.number{font-size:10px;text-anchor:middle;fill:#a00000;stroke:#ffffff;stroke-width:2.5px;paint-order:stroke}\
 .caption{font-size:14px;fill:#202020}";
 
 /// The picture of a drawing: the frame, cut lines solid, guides dashed, a tick at each bend, points
 /// as dots with their numbers.
 pub fn svg(drawing: &Drawing) -> String {
-    let canvas = Canvas { drawing };
+    let canvas = Canvas {
+        drawing,
+        layout: drawing.into(),
+    };
     let (width, height) = canvas.size();
     let lines: String = drawing.lines.iter().map(|l| canvas.line(l)).collect();
     let ticks: String = drawing.lines.iter().map(|l| canvas.tick(l)).collect();
@@ -42,6 +50,7 @@ pub fn svg(drawing: &Drawing) -> String {
 /// Turns grid units into picture units; "y points up" in the drawing and down in the picture.
 struct Canvas<'a> {
     drawing: &'a Drawing,
+    layout: Layout,
 }
 
 impl Canvas<'_> {
@@ -110,15 +119,32 @@ impl Canvas<'_> {
         )
     }
 
-    /// A dot and its number, to the upper right of the dot.
+    /// A dot and its number, which stands where no line of the point leaves.
     fn point(&self, point: u16) -> String {
         let (x, y) = self.at(self.drawing.point(point).place);
+        let angle = self.free_angle(point);
         format!(
             "<circle class=\"point\" cx=\"{x}\" cy=\"{y}\" r=\"2.5\"/>\n\
-             <text class=\"number\" x=\"{}\" y=\"{}\">{point}</text>\n",
-            x + 3.0,
-            y - 3.5
+             <text class=\"number\" x=\"{:.2}\" y=\"{:.2}\">{point}</text>\n",
+            x + NUMBER * angle.cos(),
+            y + NUMBER * angle.sin() + 3.5
         )
+    }
+
+    /// The middle of the widest gap between the lines that leave a point.
+    fn free_angle(&self, point: u16) -> f64 {
+        let directions = self.layout.directions_at(point);
+        let mut angles: Vec<f64> = directions
+            .map(|direction| (-direction.v as f64).atan2(direction.u as f64))
+            .collect();
+        angles.sort_by(f64::total_cmp);
+        let next = angles.iter().cycle().skip(1);
+        let gaps = angles.iter().zip(next).map(|(from, to)| {
+            let gap = (to - from).rem_euclid(TAU);
+            (gap, from + gap / 2.0)
+        });
+        let widest = gaps.max_by(|one, two| one.0.total_cmp(&two.0));
+        widest.map_or(0.0, |(_, middle)| middle)
     }
 }
 

@@ -4,7 +4,7 @@ use std::io::Write;
 use std::process::{Command, Output, Stdio};
 
 use second::generate::{order, Random, Style};
-use second::{drawing_file, order_file};
+use second::{draw, drawing_file, order_file};
 
 /// A drawing file of 40 points.
 fn drawing_file() -> Vec<u8> {
@@ -32,6 +32,30 @@ fn a_drawing_file_gives_a_picture() {
     assert!(output.status.success());
     assert_eq!(text.matches("<circle").count(), 40);
     assert_eq!(text.matches("<polyline").count(), 114);
+}
+
+// The example of the tree, document 01's K4: the places of its points and bends.
+#[test]
+fn the_example_gives_its_picture() {
+    let path = concat!(env!("CARGO_MANIFEST_DIR"), "/../../examples/k4.order");
+    let mut drawing = [0; 150];
+    assert_eq!(draw(&std::fs::read(path).unwrap(), &mut drawing), Ok(150));
+    let text = String::from_utf8(picture(&drawing).stdout).unwrap();
+    let count = |part: &str| text.matches(part).count();
+    assert_eq!(count("<circle"), 5);
+    assert_eq!(count("class=\"cut\""), 9);
+    assert_eq!(count("class=\"tick\""), 8);
+    assert!(text.contains("5 points, scale 1, width 12, height 5"));
+    // Points (6,5) and (12,0); line 5-1 by (4,3), 5-2 by (9,2), 3-2 by (9,1), all from (48,168) up.
+    for part in [
+        "cx=\"192\" cy=\"48\"",
+        "cx=\"336\" cy=\"168\"",
+        "points=\"192,48 144,96 48,168\"",
+        "points=\"192,48 264,120 336,168\"",
+        "points=\"216,120 264,144 336,168\"",
+    ] {
+        assert_eq!(count(part), 1, "{part}");
+    }
 }
 
 // A path argument.

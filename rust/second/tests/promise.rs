@@ -1,13 +1,13 @@
 //! Demand 3 on every order of a few points and on random orders.
 
 use second::generate::{all_orders, order, Order, Random, STYLES};
-use second::promise::check;
-use second::{open, order_file, Bend, Drawing};
+use second::promise::{check, Layout};
+use second::{drawing_file, open, order_file, Bend, Drawing};
 
 /// The promise, and "Middle port i (1 to 2h - 1)", "Right port j (1 to dr)", "Left port j (1 to dl)":
 /// every line's port is there.
 fn keeps_the_promise(drawing: &Drawing) {
-    let violations = check(drawing);
+    let violations = check(&drawing.into());
     assert!(violations.is_empty(), "{violations:?} in {drawing:?}");
     for line in &drawing.lines {
         let (index, most) = match line.bend {
@@ -58,5 +58,18 @@ fn finished_drawings_of_1024_points() {
     for style in STYLES {
         let order = order(1024, style, &mut Random::new(7));
         keeps_the_promise(&order_file::read(&order.bytes()).unwrap());
+    }
+}
+
+// The numbers of a drawing file give the layout of its drawing.
+#[test]
+fn the_layout_of_a_file() {
+    for style in STYLES {
+        for n in [3, 4, 9, 40] {
+            let order = order(n, style, &mut Random::new(u64::from(n)));
+            let drawing = order_file::read(&order.bytes()).unwrap();
+            let file = drawing_file::write(&drawing).unwrap();
+            assert_eq!(drawing_file::layout(&file), Ok(Layout::from(&drawing)));
+        }
     }
 }

@@ -1,6 +1,6 @@
 //! Order files to drawing files and back, sizes, output lengths, broken files.
 
-use second::generate::{all_orders, order, Order, Random, STYLES};
+use second::generate::{all_orders, order, record_places, Order, Random, STYLES};
 use second::{draw, drawing_file, open, order_file, undraw, Refusal};
 
 /// `draw` or `undraw`.
@@ -108,25 +108,6 @@ fn unfinished_drawings_are_not_written() {
     let drawing = open(4).unwrap();
     assert_eq!(drawing_file::write(&drawing), Err(Refusal::new(22, 0)));
     assert_eq!(order_file::write(&drawing), Err(Refusal::new(22, 0)));
-}
-
-/// The offsets of the records' marks, the last one that of the end record.
-fn record_places(bytes: &[u8]) -> Vec<usize> {
-    let number = |at: usize| usize::from(u16::from_be_bytes([bytes[at], bytes[at + 1]]));
-    let mut places = Vec::new();
-    let mut at = 0;
-    while at < bytes.len() {
-        places.push(at);
-        at += match &bytes[at..at + 2] {
-            [0x48, 0x44] | [0x53, 0x43] => 4,
-            [0x50, 0x54] => 4 + 2 * number(at + 2),
-            [0x44, 0x48] => 10,
-            [0x50, 0x4F] => 6,
-            [0x4C, 0x4E] => 12,
-            _ => 2,
-        };
-    }
-    places
 }
 
 // "1 file ends inside a record or before its mark", at every length.

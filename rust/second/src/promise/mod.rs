@@ -1,11 +1,31 @@
-//! Demand 3, checked on a drawing by trying every point, line and pair of lines.
+//! Demand 3, checked on a layout by trying every point, line and pair of lines.
 
 mod geometry;
 
 use std::fmt;
 
-use crate::drawing::{Bend, Drawing, Line, Place};
+use crate::drawing::{Drawing, Place};
 use geometry::{Direction, Piece};
+
+/// What demand 3 speaks of, as places only: from a drawing, or from the numbers of a drawing file.
+#[derive(Clone, Debug, PartialEq, Eq)]
+pub struct Layout {
+    /// w1, .., wm, left to right.
+    pub boundary: Vec<u16>,
+    /// The places of points 1 to k.
+    pub places: Vec<Place>,
+    pub lines: Vec<Laid>,
+}
+
+/// A line of a layout.
+#[derive(Clone, Copy, Debug, PartialEq, Eq)]
+pub struct Laid {
+    pub later: u16,
+    pub earlier: u16,
+    /// "A port is at the point that owns it": none for line 1-2.
+    pub port_owner: Option<u16>,
+    pub bend: Place,
+}
 
 /// A clause of demand 3.
 #[derive(Clone, Copy, Debug, PartialEq, Eq)]
@@ -51,10 +71,71 @@ enum Sector {
     Middle,
 }
 
-/// "Demand 3 comes in full": all violated clauses, none if the drawing keeps the promise.
-pub fn check(drawing: &Drawing) -> Vec<Violation> {
+impl From<&Drawing> for Layout {
+    /// The places of a drawing's points and bends.
+    fn from(drawing: &Drawing) -> Self {
+        let laid = drawing.lines.iter().map(|line| Laid {
+            later: line.later,
+            earlier: line.earlier,
+            port_owner: line.port_owner(),
+            bend: drawing.bend_of(line),
+        });
+        Layout {
+            boundary: drawing.boundary.clone(),
+            places: drawing.points.iter().map(|point| point.place).collect(),
+            lines: laid.collect(),
+        }
+    }
+}
+
+impl Layout {
+    /// The place of a point from 1 to k.
+    fn place(&self, point: u16) -> Place {
+        self.places[usize::from(point) - 1]
+    }
+
+    /// "k is how many are placed."
+    fn k(&self) -> u16 {
+        self.places.len() as u16
+    }
+
+    /// "W is the x of point 2."
+    fn width(&self) -> i64 {
+        self.place(2).x
+    }
+
+    /// The directions in which lines leave a point.
+    pub(crate) fn directions_at(&self, point: u16) -> impl Iterator<Item = Direction> + '_ {
+        self.lines_at(point)
+            .map(move |line| leaving(self, line, point))
+    }
+
+    /// The lines that end at a point.
+    fn lines_at(&self, point: u16) -> impl Iterator<Item = &Laid> {
+        self.lines.iter().filter(move |line| line.ends_at(point))
+    }
+}
+
+impl Laid {
+    /// Whether the line ends at the point.
+    fn ends_at(&self, point: u16) -> bool {
+        self.later == point || self.earlier == point
+    }
+
+    /// The end of the line that isn't the given end.
+    fn other_end(&self, point: u16) -> u16 {
+        if self.later == point {
+            self.earlier
+        } else {
+            self.later
+        }
+    }
+}
+
+/// "Demand 3 comes in full": all violated clauses, none if the layout keeps the promise.
+pub fn check(layout: &Layout) -> Vec<Violation> {
     let mut check = Check {
-        drawing,
+        layout,
         found: Vec::new(),
     };
     check.boundary_grows();
@@ -68,9 +149,9 @@ pub fn check(drawing: &Drawing) -> Vec<Violation> {
     check.found
 }
 
-/// The drawing under test and the violations found so far.
+/// The layout under test and the violations found so far.
 struct Check<'a> {
-    drawing: &'a Drawing,
+    layout: &'a Layout,
     found: Vec<Violation>,
 }
 
@@ -82,9 +163,9 @@ impl Check<'_> {
 
     /// Demand 3: x strictly grows along the boundary.
     fn boundary_grows(&mut self) {
-        for step in self.drawing.boundary.windows(2) {
-            let from = self.drawing.point(step[0]).place;
-            let to = self.drawing.point(step[1]).place;
+        for step in self.layout.boundary.windows(2) {
+            let from = self.layout.place(step[0]);
+            let to = self.layout.place(step[1]);
             if from.x >= to.x {
                 self.note(
                     Clause::BoundaryGrows,
@@ -99,14 +180,14 @@ impl Check<'_> {
 
     /// "Boundary lines join wi and w(i+1)": each is there, its free piece has slope 1 or -1 or none.
     fn boundary_lines(&mut self) {
-        for step in self.drawing.boundary.windows(2) {
-            let joins = |line: &&Line| line.ends_at(step[0]) && line.ends_at(step[1]);
-            let Some(line) = self.drawing.lines.iter().find(joins) else {
+        for step in self.layout.boundary.windows(2) {
+            let joins = |line: &&Laid| line.ends_at(step[0]) && line.ends_at(step[1]);
+            let Some(line) = self.layout.lines.iter().find(joins) else {
                 let message = format!("no line joins {} and {}", step[0], step[1]);
                 self.note(Clause::BoundaryLine, message);
                 continue;
             };
-            let free = free_piece(self.drawing, line).direction();
+            let free = free_piece(self.layout, line).direction();
             if free.u.abs() != free.v.abs() {
                 let message = format!("free piece of {} goes ({},{})", name(line), free.u, free.v);
                 self.note(Clause::BoundaryLine, message);
@@ -117,13 +198,13 @@ impl Check<'_> {
     /// "A line whose port isn't at the point (1-2 at both its ends) counts in the sector of the
     /// direction in which it leaves." "Every such line leaves into one of the three."
     fn sectors(&mut self) {
-        for point in 1..=self.drawing.k() {
+        for point in 1..=self.layout.k() {
             let mut taken: Vec<Sector> = Vec::new();
-            for line in lines_at(self.drawing, point) {
-                if line.port_owner() == Some(point) {
+            for line in self.layout.lines_at(point) {
+                if line.port_owner == Some(point) {
                     continue;
                 }
-                let direction = leaving(self.drawing, line, point);
+                let direction = leaving(self.layout, line, point);
                 match sector(direction) {
                     None => self.note(
                         Clause::Sectors,
@@ -149,15 +230,15 @@ impl Check<'_> {
 
     /// "Two different lines have no point in common but the place of a point where both end."
     fn crossings(&mut self) {
-        let drawing = self.drawing;
-        let drawn: Vec<(&Line, Vec<Piece>)> = drawing
+        let layout = self.layout;
+        let drawn: Vec<(&Laid, Vec<Piece>)> = layout
             .lines
             .iter()
-            .map(|line| (line, pieces(drawing, line)))
+            .map(|line| (line, pieces(layout, line)))
             .collect();
         for (index, one) in drawn.iter().enumerate() {
             for two in &drawn[index + 1..] {
-                if !apart(drawing, one, two) {
+                if !apart(layout, one, two) {
                     let message = format!("{} and {} meet", name(one.0), name(two.0));
                     self.note(Clause::Crossing, message);
                 }
@@ -170,13 +251,13 @@ impl Check<'_> {
     /// product is at least the dot product." "d counts the lines placed so far that end at the
     /// point."
     fn angles(&mut self) {
-        for point in 1..=self.drawing.k() {
-            let lines: Vec<&Line> = lines_at(self.drawing, point).collect();
+        for point in 1..=self.layout.k() {
+            let lines: Vec<&Laid> = self.layout.lines_at(point).collect();
             let factor = 2 * lines.len() as i128 - 1;
             for (index, one) in lines.iter().enumerate() {
-                let a = leaving(self.drawing, one, point);
+                let a = leaving(self.layout, one, point);
                 for two in &lines[index + 1..] {
-                    let b = leaving(self.drawing, two, point);
+                    let b = leaving(self.layout, two, point);
                     let dot = a.dot(b);
                     if dot > 0 && factor * a.cross(b).abs() < dot {
                         let message =
@@ -190,9 +271,9 @@ impl Check<'_> {
 
     /// Demand 3: the lines number 3k - 3 - m.
     fn line_count(&mut self) {
-        let k = self.drawing.points.len();
-        let m = self.drawing.boundary.len();
-        let count = self.drawing.lines.len();
+        let k = self.layout.places.len();
+        let m = self.layout.boundary.len();
+        let count = self.layout.lines.len();
         if count + 3 + m != 3 * k {
             let message = format!("{count} lines with k = {k} and m = {m}");
             self.note(Clause::LineCount, message);
@@ -202,19 +283,18 @@ impl Check<'_> {
     /// "Between the heights of demand 3, and at x from 0 to W, lie all points and bends; W/2 isn't
     /// rounded."
     fn frame(&mut self) {
-        for point in 1..=self.drawing.k() {
-            let place = self.drawing.point(point).place;
+        for point in 1..=self.layout.k() {
+            let place = self.layout.place(point);
             self.in_frame(place, format!("point {point}"));
         }
-        for line in &self.drawing.lines {
-            let place = self.drawing.bend_of(line);
-            self.in_frame(place, format!("bend of {}", name(line)));
+        for line in &self.layout.lines {
+            self.in_frame(line.bend, format!("bend of {}", name(line)));
         }
     }
 
     /// The same sentence for one place.
     fn in_frame(&mut self, place: Place, what: String) {
-        let width = self.drawing.width();
+        let width = self.layout.width();
         let inside = 0 <= place.x && place.x <= width && 0 <= place.y && 2 * place.y <= width - 2;
         if !inside {
             let message = format!("{what} is at ({},{}), W = {width}", place.x, place.y);
@@ -224,56 +304,51 @@ impl Check<'_> {
 
     /// Demand 3: W is at most 5k - 9.
     fn width(&mut self) {
-        let width = self.drawing.width();
-        let k = self.drawing.k();
+        let width = self.layout.width();
+        let k = self.layout.k();
         if width > 5 * i64::from(k) - 9 {
             self.note(Clause::Width, format!("W = {width} with k = {k}"));
         }
     }
 }
 
-/// The lines that end at a point.
-fn lines_at(drawing: &Drawing, point: u16) -> impl Iterator<Item = &Line> {
-    drawing.lines.iter().filter(move |line| line.ends_at(point))
-}
-
 /// A line's name in messages, "later-earlier".
-fn name(line: &Line) -> String {
+fn name(line: &Laid) -> String {
     format!("{}-{}", line.later, line.earlier)
 }
 
 /// "the rest, up to the other end, is the free piece"; "Line 1-2 is one free piece."
-fn free_piece(drawing: &Drawing, line: &Line) -> Piece {
-    let free_end = match line.port_owner() {
+fn free_piece(layout: &Layout, line: &Laid) -> Piece {
+    let free_end = match line.port_owner {
         Some(owner) => line.other_end(owner),
         None => line.later,
     };
     Piece {
-        from: drawing.bend_of(line),
-        to: drawing.point(free_end).place,
+        from: line.bend,
+        to: layout.place(free_end),
     }
 }
 
 /// "The piece from the port's owner to the port is the port piece"; with the free piece.
-fn pieces(drawing: &Drawing, line: &Line) -> Vec<Piece> {
-    let port_piece = line.port_owner().map(|owner| Piece {
-        from: drawing.point(owner).place,
-        to: drawing.bend_of(line),
+fn pieces(layout: &Layout, line: &Laid) -> Vec<Piece> {
+    let port_piece = line.port_owner.map(|owner| Piece {
+        from: layout.place(owner),
+        to: line.bend,
     });
-    let mut pieces = vec![free_piece(drawing, line)];
+    let mut pieces = vec![free_piece(layout, line)];
     pieces.extend(port_piece);
     pieces
 }
 
 /// "a line whose port is at the point leaves towards that port"; else along the free piece, and "if
 /// its free piece has no length, that is towards the port's owner".
-fn leaving(drawing: &Drawing, line: &Line, point: u16) -> Direction {
-    let place = drawing.point(point).place;
-    let other = drawing.point(line.other_end(point)).place;
-    if line.bend == Bend::None {
+fn leaving(layout: &Layout, line: &Laid, point: u16) -> Direction {
+    let place = layout.place(point);
+    let other = layout.place(line.other_end(point));
+    if line.port_owner.is_none() {
         return Direction::between(place, other);
     }
-    let to_bend = Direction::between(place, drawing.bend_of(line));
+    let to_bend = Direction::between(place, line.bend);
     if to_bend.is_zero() {
         Direction::between(place, other)
     } else {
@@ -297,12 +372,12 @@ fn sector(direction: Direction) -> Option<Sector> {
 }
 
 /// The same sentence for two lines with their pieces.
-fn apart(drawing: &Drawing, one: &(&Line, Vec<Piece>), two: &(&Line, Vec<Piece>)) -> bool {
+fn apart(layout: &Layout, one: &(&Laid, Vec<Piece>), two: &(&Laid, Vec<Piece>)) -> bool {
     let only_at_end = |p: &Piece, q: &Piece| {
         [one.0.later, one.0.earlier]
             .into_iter()
             .filter(|&end| two.0.ends_at(end))
-            .any(|end| p.meets_only_at(q, drawing.point(end).place))
+            .any(|end| p.meets_only_at(q, layout.place(end)))
     };
     one.1
         .iter()
@@ -312,7 +387,7 @@ fn apart(drawing: &Drawing, one: &(&Line, Vec<Piece>), two: &(&Line, Vec<Piece>)
 #[cfg(test)]
 mod tests {
     use super::*;
-    use crate::open;
+    use crate::{open, Bend};
 
     // K4's drawing.
     fn drawing() -> Drawing {
@@ -324,13 +399,13 @@ mod tests {
 
     // Whether the check finds the clause violated.
     fn finds(drawing: &Drawing, clause: Clause) -> bool {
-        check(drawing).iter().any(|v| v.clause == clause)
+        check(&drawing.into()).iter().any(|v| v.clause == clause)
     }
 
     // The drawing as the rules give it keeps every clause.
     #[test]
     fn a_right_drawing_passes() {
-        assert_eq!(check(&drawing()), Vec::new());
+        assert_eq!(check(&(&drawing()).into()), Vec::new());
     }
 
     // Each clause is found violated in a drawing that was changed to break it.

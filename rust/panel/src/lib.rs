@@ -1,0 +1,61 @@
+//! One-bend panel drawings by the proved library: order files to drawing files and back, lists of
+//! adding calls, and cutter moves.
+//!
+//! Every answer is a value or a [`Refusal`] with document 01's number and place. A refusal changes no
+//! byte of an output, and bytes past the written ones stay.
+//!
+//! ```
+//! use panel::{draw, moves, undraw, Move, Refusal, Tool};
+//!
+//! // Three points: 1, then 2 joined to 1, then 3 joined to 1 and 2.
+//! let order = [
+//!     0x48, 0x44, 0, 3, // n
+//!     0x50, 0x54, 0, 0, // point 1
+//!     0x50, 0x54, 0, 1, 0, 1, // point 2
+//!     0x50, 0x54, 0, 2, 0, 1, 0, 2, // point 3
+//!     0x45, 0x4E,
+//! ];
+//! let drawing = [
+//!     0x44, 0x48, 0, 3, 0, 1, 0, 6, 0, 2, // n, scale, width, height
+//!     0x50, 0x4F, 0, 0, 0, 0, // point 1 at (0,0)
+//!     0x50, 0x4F, 0, 6, 0, 0, // point 2 at (6,0)
+//!     0x50, 0x4F, 0, 3, 0, 2, // point 3 at (3,2)
+//!     0x4C, 0x4E, 0, 2, 0, 1, 0, 0, 0, 0, 0, 1, // line 2-1, cut
+//!     0x4C, 0x4E, 0, 3, 0, 1, 0, 2, 0, 1, 0, 1, // line 3-1 bends at (2,1)
+//!     0x4C, 0x4E, 0, 3, 0, 2, 0, 4, 0, 1, 0, 1, // line 3-2 bends at (4,1)
+//!     0x45, 0x4E,
+//! ];
+//!
+//! let mut out = [0; 100];
+//! assert_eq!(draw(&order, &mut out), Ok(66));
+//! assert_eq!(out[..66], drawing);
+//! assert_eq!(undraw(&drawing, &mut out), Ok(24));
+//! assert_eq!(out[..24], order);
+//!
+//! // A file that ends inside the record at offset 8 is refused.
+//! let refused = Refusal { number: 1, place: 8 };
+//! assert_eq!(draw(&order[..10], &mut out), Err(refused));
+//! assert_eq!(refused.to_string(), "refused 1 at 8");
+//!
+//! // A grid unit of one millimetre, half a millimetre deep, one above the panel between lines.
+//! let tool = Tool { pitch: 8.0, depth: 4.0, clearance: 8.0 };
+//! let moves: Vec<Move> = moves(&order, tool)?.collect();
+//! assert_eq!(moves.len(), 15);
+//! assert_eq!(moves[5], Move::Travel(3.0, 2.0));
+//! assert_eq!(moves[6], Move::Plunge(-0.5));
+//! assert_eq!(moves[7], Move::Cut(2.0, 1.0));
+//! # Ok::<(), Refusal>(())
+//! ```
+
+mod calls;
+mod calls_move;
+mod files;
+mod moves;
+pub mod raw;
+mod refusal;
+
+pub use calls::{calls, calls_in_words, Called};
+pub use calls_move::calls_move_at;
+pub use files::{draw, undraw};
+pub use moves::{move_at, moves, Move, Moves, Tool};
+pub use refusal::Refusal;

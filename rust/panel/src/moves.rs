@@ -1,0 +1,90 @@
+//! Cutter moves.
+
+use crate::raw::{panel_move, Words};
+use crate::refusal::{given, Refusal};
+
+/// Document 01: "a tool is three whole numbers of eighths of a millimetre, pitch 1 to 80, depth 1 to
+/// 40, clearance 1 to 80, held as f32".
+#[derive(Clone, Copy, Debug, PartialEq)]
+pub struct Tool {
+    pub pitch: f32,
+    pub depth: f32,
+    pub clearance: f32,
+}
+
+/// One move of the cutter, in millimetres.
+#[derive(Clone, Copy, Debug, PartialEq)]
+pub enum Move {
+    /// Above the panel, to x and y.
+    Travel(f32, f32),
+    /// Down, to z.
+    Plunge(f32),
+    /// In the panel, to x and y.
+    Cut(f32, f32),
+    /// Up, to z.
+    Lift(f32),
+}
+
+/// The move that a function of the library gives by its kind and numbers, unless it refuses.
+pub(crate) fn given_move(
+    call: impl FnOnce(&mut [f32; 2], &mut Words) -> u64,
+) -> Result<Move, Refusal> {
+    let mut at = [0.0; 2];
+    let kind = given(|refusal| call(&mut at, refusal))?;
+    let [x, y] = at;
+    Ok(match kind {
+        1 => Move::Travel(x, y),
+        2 => Move::Plunge(x),
+        3 => Move::Cut(x, y),
+        4 => Move::Lift(x),
+        _ => unreachable!("the library has no move of kind {kind}"),
+    })
+}
+
+/// A move of the drawing of an order file, by number from 0. Refused are what [`draw`](crate::draw)
+/// refuses, then 12 for the tool, 23 if there is no such move.
+pub fn move_at(order: &[u8], tool: Tool, number: usize) -> Result<Move, Refusal> {
+    let (from, length) = (order.as_ptr(), order.len());
+    let Tool {
+        pitch,
+        depth,
+        clearance,
+    } = tool;
+    // SAFETY: pointer and length are those of a borrowed slice.
+    given_move(|at, refusal| unsafe {
+        panel_move(from, length, pitch, depth, clearance, number, at, refusal)
+    })
+}
+
+/// All moves of the drawing of an order file; refused as [`move_at`] is, with none for a drawing
+/// that has no cut line. Each step draws the order again, so all moves of n points take time that
+/// grows with the square of n.
+pub fn moves(order: &[u8], tool: Tool) -> Result<Moves<'_>, Refusal> {
+    match move_at(order, tool, 0) {
+        Err(refusal) if refusal.number != 23 => Err(refusal),
+        _ => Ok(Moves {
+            order,
+            tool,
+            number: 0,
+        }),
+    }
+}
+
+/// The moves of an order file, one after another.
+#[derive(Clone, Debug)]
+pub struct Moves<'a> {
+    order: &'a [u8],
+    tool: Tool,
+    number: usize,
+}
+
+impl Iterator for Moves<'_> {
+    type Item = Move;
+
+    /// The next move, none after the last.
+    fn next(&mut self) -> Option<Move> {
+        let found = move_at(self.order, self.tool, self.number).ok()?;
+        self.number += 1;
+        Some(found)
+    }
+}

@@ -1,0 +1,16 @@
+//! The proved library against the second implementation, from fixed seeds.
+//!
+//! Every test writes how many cases it ran. The environment variable PANEL_ROUNDS (1 if it isn't set)
+//! multiplies the number of random cases: `PANEL_ROUNDS=20 cargo test --release -p panel`. A case
+//! that differs is made as small as can be before it is printed.
+
+mod both;
+mod calls;
+mod calls_move;
+mod damage;
+mod moves;
+mod orders;
+mod outputs;
+mod promise;
+mod shrink;
+mod tally;

@@ -1,0 +1,111 @@
+//! Orders drawn and read back.
+
+use second::generate::{all_orders, order, Order, Random, STYLES};
+
+use crate::both::{compare, Way};
+use crate::promise::keeps_the_promise;
+use crate::shrink::{order_keeps, Kept};
+use crate::tally::{rounds, Tally};
+
+/// Both sides accept the file; gives what they write.
+fn accepted(way: Way, input: &[u8]) -> Result<Vec<u8>, String> {
+    let answer = compare(way, input, way.room(input))?;
+    answer.map_err(|refusal| format!("{way:?}: {refusal}"))
+}
+
+/// Both sides draw the order to the same bytes and read the order back from them; up to 60 points the
+/// drawing is tried for the promise.
+fn comes_back(order: &Order) -> Kept {
+    let bytes = order.bytes();
+    let drawing = accepted(Way::Draw, &bytes)?;
+    if order.n <= 60 {
+        keeps_the_promise(&drawing)?;
+    }
+    if accepted(Way::Undraw, &drawing)? != bytes {
+        return Err("another order comes back".into());
+    }
+    Ok(())
+}
+
+/// The order file and the drawing file of an order that comes back.
+pub fn drawn(order: &Order) -> (Vec<u8>, Vec<u8>) {
+    order_keeps(order, comes_back);
+    let bytes = order.bytes();
+    let drawing = accepted(Way::Draw, &bytes).expect("the order comes back");
+    (bytes, drawing)
+}
+
+// Every choice of runs, all lines cut.
+#[test]
+fn every_order_of_up_to_10_points() {
+    let mut tally = Tally::new("orders, every order of up to 10 points");
+    for order in (3..=10).flat_map(all_orders) {
+        order_keeps(&order, comes_back);
+        tally.count();
+    }
+    tally.say();
+}
+
+// Every choice of runs and guides, every scale.
+#[test]
+fn every_guide_and_scale_of_up_to_5_points() {
+    let mut tally = Tally::new("orders, every guide and scale of up to 5 points");
+    for order in (3..=5).flat_map(all_orders) {
+        for guides in 0..1 << (3 * order.n - 6) {
+            for s in 1..=8 {
+                order_keeps(&with_guides(&order, guides, s), comes_back);
+                tally.count();
+            }
+        }
+    }
+    tally.say();
+}
+
+/// The order with a scale, and a guide for each bit that is 1, a line a bit.
+fn with_guides(order: &Order, guides: u32, s: u16) -> Order {
+    let mut order = order.clone();
+    order.s = s;
+    let entries = order
+        .opening
+        .iter_mut()
+        .chain(order.calls.iter_mut().flatten());
+    for (line, entry) in entries.enumerate() {
+        *entry |= ((guides >> line & 1) as u16) << 15;
+    }
+    order
+}
+
+/// Random orders of every style, so many of each, of the sizes that `size` gives.
+fn random_orders(what: &'static str, seed: u64, count: u64, size: impl Fn(&mut Random) -> usize) {
+    let mut tally = Tally::new(what);
+    for round in 0..rounds(count) {
+        let mut random = Random::new(seed + round);
+        for style in STYLES {
+            let n = size(&mut random) as u16;
+            order_keeps(&order(n, style, &mut random), comes_back);
+            tally.count();
+        }
+    }
+    tally.say();
+}
+
+// Many small ones.
+#[test]
+fn random_orders_of_up_to_100_points() {
+    let what = "orders, random ones of up to 100 points";
+    random_orders(what, 10_000, 4000, |random| random.between(3, 100));
+}
+
+// Some of middle size.
+#[test]
+fn random_orders_of_up_to_1023_points() {
+    let what = "orders, random ones of 101 to 1,023 points";
+    random_orders(what, 20_000, 200, |random| random.between(101, 1023));
+}
+
+// The largest.
+#[test]
+fn random_orders_of_1024_points() {
+    let what = "orders, random ones of 1,024 points";
+    random_orders(what, 30_000, 60, |_| 1024);
+}

@@ -1,0 +1,88 @@
+//! Outputs of every length: 24 exactly where the file doesn't fit, and what must stay stays.
+
+use second::generate::{order, Random, Style, STYLES};
+
+use crate::both::{compare, Answer, Way};
+use crate::orders::drawn;
+use crate::shrink::{keeps, Kept};
+use crate::tally::Tally;
+
+/// The answer of both sides; how they differ is said with the input.
+fn same(way: Way, input: &[u8], room: usize) -> Result<Answer, String> {
+    compare(way, input, room).map_err(|why| format!("{why}\n  for {input:02x?}"))
+}
+
+/// Both sides agree on an output of so many bytes, and give 24 exactly if it is too short.
+fn fits(way: Way, input: &[u8], output: &[u8], room: usize) -> Kept {
+    let right = match same(way, input, room)? {
+        Ok(bytes) => bytes == output && room >= output.len(),
+        Err(refusal) => refusal.to_string() == "refused 24 at 0" && room < output.len(),
+    };
+    if !right {
+        let needed = output.len();
+        return Err(format!(
+            "{way:?} into {room} bytes where {needed} are needed\n  for {input:02x?}"
+        ));
+    }
+    Ok(())
+}
+
+/// Both ways of an order with outputs of some lengths around the needed one.
+fn both_ways(n: u16, seed: u64, tally: &mut Tally, lengths: impl Fn(usize) -> Vec<usize>) {
+    for style in STYLES {
+        let (bytes, drawing) = drawn(&order(n, style, &mut Random::new(seed)));
+        for (way, input, output) in [
+            (Way::Draw, &bytes, &drawing),
+            (Way::Undraw, &drawing, &bytes),
+        ] {
+            for room in lengths(output.len()) {
+                keeps(fits(way, input, output, room));
+                tally.count();
+            }
+        }
+    }
+}
+
+// Every length up to nine more than is needed.
+#[test]
+fn every_length_for_small_files() {
+    let mut tally = Tally::new("outputs, every length for up to 20 points");
+    for n in 3..=20 {
+        both_ways(n, 40_000, &mut tally, |needed| (0..needed + 10).collect());
+    }
+    tally.say();
+}
+
+// Nine less to nine more than is needed, none, one, and many more.
+#[test]
+fn lengths_around_the_needed_one() {
+    let mut tally = Tally::new("outputs, around the needed length for 60 to 1,024 points");
+    for n in [60, 255, 256, 257, 1024] {
+        both_ways(n, 41_000, &mut tally, |needed| {
+            let mut lengths = vec![0, 1, needed / 2, needed + 70_000];
+            lengths.extend(needed - 9..needed + 10);
+            lengths
+        });
+    }
+    tally.say();
+}
+
+// A refusal of the file comes before 24.
+#[test]
+fn refused_files_and_short_outputs() {
+    let mut tally = Tally::new("outputs, refused files and short outputs");
+    for n in [3, 4, 9, 40] {
+        let (bytes, drawing) = drawn(&order(n, Style::Mixed, &mut Random::new(42_000)));
+        for (way, input) in [(Way::Draw, bytes), (Way::Undraw, drawing)] {
+            for at in 0..input.len() {
+                let mut wrong = input.clone();
+                wrong[at] ^= 0x11;
+                for room in [0, 1, input.len() / 2] {
+                    keeps(same(way, &wrong, room).map(|_| ()));
+                    tally.count();
+                }
+            }
+        }
+    }
+    tally.say();
+}
