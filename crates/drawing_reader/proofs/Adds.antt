@@ -19,9 +19,10 @@ use Rattle.links.specs.Arrays.{Arrays}
 use Rattle.links.specs.Storing.{judged, countsAfter}
 use Rattle.stored.specs.Adding.{Holds, called}
 use Rattle.adding.specs.Calls.{Answered}
-use Rattle.drawing_reader.specs.Groups.{group-place}
-use Rattle.drawing_reader.specs.Entered.{numberFor, add-alike}
-use Rattle.drawing_reader.specs.Contracted.{Taken, answerAt, linesBehind, nextGroup, GroupBehind, Grouped}
+use Rattle.line_records.specs.Lines.{group-place}
+use Rattle.line_records.specs.Groups.{numberFor, Taken}
+use Rattle.drawing_reader.specs.Entered.{add-alike}
+use Rattle.drawing_reader.specs.Contracted.{answerAt, linesBehind, nextGroup, GroupBehind, Grouped}
 
 -- a refusal at a place
 answer-at : {A : Type 0} (p : ℕ) (z : Result A) → answerAt p (answer z) ≡ answer (placed p z)

@@ -1,0 +1,4 @@
+pub mod Results
+pub mod Cursors
+pub mod Reading
+pub mod Marked
