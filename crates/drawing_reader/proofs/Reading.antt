@@ -21,7 +21,7 @@ use Rattle.stored.specs.Opened.{sized-open, stores-open}
 use Rattle.records.specs.Results.{stops}
 use Rattle.line_records.specs.Lines.{linesAt, lineAt}
 use Rattle.line_records.specs.Groups.{numberFor}
-use Rattle.drawing_tests.specs.Files.{nIn, sIn, linesFrom, lineCount, linesEnd, fileTests}
+use Rattle.drawing_judging.specs.Files.{nIn, sIn, linesFrom, lineCount, linesEnd, fileTests}
 use Rattle.drawing_reader.specs.Judged.{judgeDrawing}
 use Rattle.drawing_reader.specs.Whole.{judged-so, firstLine, secondLine, thirdLine, begunIn, Passes, number-back}
 use Rattle.drawing_reader.specs.Contracted.{restGroups, AllGrouped, LinesRead}

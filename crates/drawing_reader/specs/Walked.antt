@@ -17,7 +17,7 @@ use Rattle.records.specs.Results.{then-then, then-good, then-value}
 use Rattle.records.specs.Cursors.{cursor}
 use Rattle.records.specs.Marked.{recordTest, recordAt, recordTests, words-in, record-is, several-is, record-there}
 use Rattle.line_records.specs.Lines.{linesAt}
-use Rattle.drawing_tests.specs.Files.{nIn, sIn, linesFrom, lineCount, linesEnd, headTests, bodyTests}
+use Rattle.drawing_judging.specs.Files.{nIn, sIn, linesFrom, lineCount, linesEnd, headTests, bodyTests}
 use Rattle.drawing_reader.specs.Judged.{judgeDrawing}
 
 module _ (f : List ℕ) where

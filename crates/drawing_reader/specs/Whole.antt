@@ -17,8 +17,8 @@ use Rattle.rules.specs.DrawingFile.{laterIn, entryIn, group, behind, judgeRest,
 use Rattle.records.specs.Results.{then-then, both}
 use Rattle.line_records.specs.Lines.{linesAt, lineAt, earlierIn, joins, three-lines}
 use Rattle.line_records.specs.Groups.{numberFor}
-use Rattle.drawing_tests.specs.Files.{nIn, sIn, linesFrom, lineCount, linesEnd, linesOf, headTests, bodyTests, fileTests, head-tells, body-tells}
-use Rattle.drawing_tests.specs.Starting.{joined, nextIs, none-next, startTests, not-2-1, two-of-2, not-3-1, not-3-2, three-of-3}
+use Rattle.drawing_judging.specs.Files.{nIn, sIn, linesFrom, lineCount, linesEnd, linesOf, headTests, bodyTests, fileTests, head-tells, body-tells}
+use Rattle.drawing_judging.specs.Starting.{joined, nextIs, none-next, startTests, not-2-1, two-of-2, not-3-1, not-3-2, three-of-3}
 use Rattle.drawing_reader.specs.Judged.{judgeDrawing}
 use Rattle.drawing_reader.specs.Walked.{judge-is}
 

@@ -1,5 +1,5 @@
 // A drawing file's records, read into the arrays of a drawing. Comparing its bytes with the drawing's, 11, is left to the caller.
-use drawing_tests::judge_file;
+use drawing_judging::judge_file;
 use line_records::entry_at;
 use line_records::take_group;
 use links::Added;

@@ -17,7 +17,8 @@ enum-told-2 c = search needs
 returns : tie.Need-returns
 returns c =
     let d = c .before .before in
-    d .mark-at .ensures ∙ no-end (d .before .before .args .f .now) (d .before .before .args .at) _ _ (sym (d .mark-at .ensures) ∙ c .enum-told2 .given .1)
+    let a = d .before .before .args in
+    d .mark-at .ensures ∙ no-end (a .f .now) (a .at) _ _ (sym (d .mark-at .ensures) ∙ c .enum-told2 .given .1)
 
 add-behind : tie.Need-add-behind
 add-behind c = search needs
@@ -25,12 +26,14 @@ add-behind c = search needs
 returns-2 : tie.Need-returns-2
 returns-2 c =
     let d = c .before .before .before in
-    extra _ _ (sym (d .mark-at .ensures) ∙ c .before .enum-told .given .1) (c .if1 .taken)
+    let a = d .before .before .args in
+    extra (a .f .now) (a .at) (sym (d .mark-at .ensures) ∙ c .before .enum-told .given .1) (c .if1 .taken)
 
 returns-3 : tie.Need-returns-3
 returns-3 c =
     let d = c .before .before .before in
-    ended _ _ (sym (d .mark-at .ensures) ∙ c .before .enum-told .given .1) (c .if1 .left)
+    let a = d .before .before .args in
+    ended (a .f .now) (a .at) (sym (d .mark-at .ensures) ∙ c .before .enum-told .given .1) (c .if1 .left)
 
 pub read-end-spec : {M : Type 1} → statement M
 read-end-spec =

@@ -31,7 +31,9 @@ add-from : tie.Need-add-from
 add-from c = search needs
 
 returns-2 : tie.Need-returns-2
-returns-2 c = no-count _ _ (marked (c .before)) (c .if1 .taken)
+returns-2 c =
+    let a = c .before .before .before .before .before .before .args in
+    no-count (a .f .now) (a .at) (marked (c .before)) (c .if1 .taken)
 
 add-word-at : tie.Need-add-word-at
 add-word-at c = search needs
@@ -52,7 +54,8 @@ returns-3 : tie.Need-returns-3
 returns-3 c =
     let w = c .before .before in
     let d = w .before .before in
-    entries-short _ _ (marked d) _ (w .before .if1 .left) (c .before .broad .ensures ∙ w .word-at .ensures) (c .if2 .taken)
+    let a = d .before .before .before .before .before .args in
+    entries-short (a .f .now) (a .at) (marked d) _ (w .before .if1 .left) (c .before .broad .ensures ∙ w .word-at .ensures) (c .if2 .taken)
 
 copy-numbers-requires : tie.Need-copy-numbers-requires
 copy-numbers-requires c κs = search needs
@@ -66,10 +69,11 @@ returns-4 c =
     let b = k .before .before .before in
     let w = b .before in
     let d = w .before .before in
+    let a = d .before .before .before .before .before .args in
     record {
       some = search needs;
       room = k .before .before .if2 .left;
-      is = entries-there _ _ (marked d) _ _ (k .before .before .if2 .left) (b .broad .ensures ∙ w .word-at .ensures) (k .copy-numbers .ensures);
+      is = entries-there (a .f .now) (a .at) (marked d) _ _ (k .before .before .if2 .left) (b .broad .ensures ∙ w .word-at .ensures) (k .copy-numbers .ensures);
     }
 
 pub read-entries-spec : {M : Type 1} → statement M

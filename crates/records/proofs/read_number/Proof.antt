@@ -26,7 +26,8 @@ add-if1 c = search needs
 returns-2 : tie.Need-returns-2
 returns-2 c =
     let d = c .before .before .before in
-    number-short _ _ _ (sym (d .mark-at .ensures) ∙ c .before .enum-told .given .1) (c .if1 .taken)
+    let a = d .before .before .args in
+    number-short (a .f .now) (a .at) _ (sym (d .mark-at .ensures) ∙ c .before .enum-told .given .1) (c .if1 .taken)
 
 add-word-at : tie.Need-add-word-at
 add-word-at c = search needs
@@ -38,7 +39,8 @@ returns-3 : tie.Need-returns-3
 returns-3 c =
     let e = c .before .before in
     let d = e .before .before in
-    (c .before .if1 .left, number-there _ _ _ (sym (d .mark-at .ensures) ∙ e .enum-told .given .1) _ (c .before .if1 .left) (c .word-at .ensures))
+    let a = d .before .before .args in
+    (c .before .if1 .left, number-there (a .f .now) (a .at) _ (sym (d .mark-at .ensures) ∙ e .enum-told .given .1) _ (c .before .if1 .left) (c .word-at .ensures))
 
 pub read-number-spec : {M : Type 1} → statement M
 read-number-spec =

@@ -16,7 +16,7 @@ use Rattle.words.specs.Bytes.{wordAt}
 use Rattle.records.specs.Results.{both}
 use Rattle.records.specs.Marked.{recordTests, records-there}
 use Rattle.line_records.specs.Lines.{linesAt}
-use Rattle.drawing_tests.specs.Starting.{startTests}
+use Rattle.drawing_judging.specs.Starting.{startTests}
 
 -- n and s in the header
 abbrev pub nIn : List ℕ → ℕ

@@ -1,14 +1,14 @@
--- `drawing_tests::judge_body` meets its contract: each return gives the answer of the first test that fails.
+-- `drawing_judging::judge_body` meets its contract: each return gives the answer of the first test that fails.
 use mathlib.Core.Path.{_≡_, sym, _∙_}
 use native.Mathlib.Omega.{arith}
 use borrow.Author.Needs.{needs}
 use Rattle.rules.specs.declared.Answer.the-variants.{Accepted}
 use Rattle.rules.specs.Refusals.{answer}
 use Rattle.records.specs.Marked.{recordTests, several-answer}
-use Rattle.drawing_tests.specs.Files.{linesFrom, lineCount, linesEnd}
-use Rattle.drawing_tests.proofs.Stages.{points-stop, points-there, lines-stop, lines-there, end-stops, more-behind, none-behind}
-use Rattle.drawing_tests.proofs.judge_body.Statement.{statement}
-use Rattle.drawing_tests.proofs.judge_body.Tie as tie
+use Rattle.drawing_judging.specs.Files.{linesFrom, lineCount, linesEnd}
+use Rattle.drawing_judging.proofs.Stages.{points-stop, points-there, lines-stop, lines-there, end-stops, more-behind, none-behind}
+use Rattle.drawing_judging.proofs.judge_body.Statement.{statement}
+use Rattle.drawing_judging.proofs.judge_body.Tie as tie
 
 -- once the points stand
 points : (d : tie.After-enum-told) → let a = d .before .before .before .before .args in answer (recordTests (a .f .now) 0x504F 2 (a .n) 10) ≡ Accepted

@@ -1,4 +1,4 @@
--- `drawing_tests::judge_file` meets its contract: the header's tests, those of the records, those of points 1 to 3.
+-- `drawing_judging::judge_file` meets its contract: the header's tests, those of the records, those of points 1 to 3.
 use Prim.Native.Nat.{_≤_}
 use mathlib.Core.Path.{_≡_, sym, _∙_}
 use native.Mathlib.Omega.{arith}
@@ -7,10 +7,10 @@ use borrow.Author.Needs.{needs}
 use Rattle.rules.specs.declared.Answer.the-variants.{Accepted}
 use Rattle.rules.specs.Refusals.{answer}
 use Rattle.records.specs.Results.{accepted}
-use Rattle.drawing_tests.specs.Files.{nIn, linesEnd, headTests, bodyTests, head-tells, body-tells}
-use Rattle.drawing_tests.proofs.Stages.{file-head, file-body, file-start}
-use Rattle.drawing_tests.proofs.judge_file.Statement.{statement}
-use Rattle.drawing_tests.proofs.judge_file.Tie as tie
+use Rattle.drawing_judging.specs.Files.{nIn, linesEnd, headTests, bodyTests, head-tells, body-tells}
+use Rattle.drawing_judging.proofs.Stages.{file-head, file-body, file-start}
+use Rattle.drawing_judging.proofs.judge_file.Statement.{statement}
+use Rattle.drawing_judging.proofs.judge_file.Tie as tie
 
 -- once the header has passed
 head : (d : tie.After-enum-told) → answer (headTests (d .before .before .before .before .args .f .now)) ≡ Accepted

@@ -14,7 +14,7 @@ use Rattle.rules.specs.Refusals.{answer}
 use Rattle.rules.specs.Records.{Found}
 use Rattle.words.specs.Bytes.{wordAt}
 use Rattle.line_records.specs.Lines.{linesAt, lineAt, line-is, joins, three-lines, lines-more, lines-none}
-use Rattle.drawing_tests.specs.Starting.{nextIs, startTests, not-2-1, two-of-2, not-3-1, not-3-2, three-of-3, starts}
+use Rattle.drawing_judging.specs.Starting.{nextIs, startTests, not-2-1, two-of-2, not-3-1, not-3-2, three-of-3, starts}
 
 module _ (f : List ℕ) (at left : ℕ) (enough : 3 ≤ left) (there : at + 12 * left ≤ length f) where
   abbrev x : Found

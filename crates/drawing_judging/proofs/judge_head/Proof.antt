@@ -1,4 +1,4 @@
--- `drawing_tests::judge_head` meets its contract: each return gives the answer of the first test that fails.
+-- `drawing_judging::judge_head` meets its contract: each return gives the answer of the first test that fails.
 use mathlib.Core.Path.{_≡_, sym, _∙_, ap}
 use native.Mathlib.Omega.{arith}
 use borrow.Author.Needs.{needs}
@@ -8,9 +8,9 @@ use Rattle.rules.specs.Refusals.{answer}
 use Rattle.rules.specs.Basics.{between}
 use Rattle.words.specs.Bytes.{wordAt}
 use Rattle.records.specs.Marked.{recordTests, several-answer}
-use Rattle.drawing_tests.proofs.Stages.{head-stops, head-long, n-out, s-out, head-good}
-use Rattle.drawing_tests.proofs.judge_head.Statement.{statement}
-use Rattle.drawing_tests.proofs.judge_head.Tie as tie
+use Rattle.drawing_judging.proofs.Stages.{head-stops, head-long, n-out, s-out, head-good}
+use Rattle.drawing_judging.proofs.judge_head.Statement.{statement}
+use Rattle.drawing_judging.proofs.judge_head.Tie as tie
 
 -- what the header's record answers
 said : (d : tie.After-marks) → d .marks .result ≡ answer (recordTests (d .before .before .args .f .now) 0x4448 4 1 0)

@@ -1,13 +1,13 @@
--- `drawing_tests::judge_start` meets its contract: each return gives the answer of the first test that fails.
+-- `drawing_judging::judge_start` meets its contract: each return gives the answer of the first test that fails.
 use Prim.Native.Nat.{_+_}
 use mathlib.Core.Path.{sym, _∙_, _≡_}
 use mathlib.Core.Bool.{true}
 use borrow.Author.Needs.{needs}
 use borrow.Author.Tests.{not-true, not-false}
 use Rattle.line_records.specs.Lines.{lineAt, joins}
-use Rattle.drawing_tests.proofs.Starts.{first-other, second-of-2, second-other, third-other, all-there, fourth-of-3, all-begun}
-use Rattle.drawing_tests.proofs.judge_start.Statement.{statement}
-use Rattle.drawing_tests.proofs.judge_start.Tie as tie
+use Rattle.drawing_judging.proofs.Starts.{first-other, second-of-2, second-other, third-other, all-there, fourth-of-3, all-begun}
+use Rattle.drawing_judging.proofs.judge_start.Statement.{statement}
+use Rattle.drawing_judging.proofs.judge_start.Tie as tie
 
 -- once each of the three lines has been seen to be the right one
 first : (d : tie.Else1) → let a = d .before .before .before .args in joins (lineAt (a .f .now) (a .at)) 2 1 ≡ true

@@ -14,8 +14,8 @@ use Rattle.rules.specs.Refusals.{Result, good, refused, _>>_, answer}
 use Rattle.records.specs.Results.{accepted, stops, goes-on}
 use Rattle.records.specs.Marked.{recordTests, records-there}
 use Rattle.line_records.specs.Lines.{linesAt}
-use Rattle.drawing_tests.specs.Starting.{startTests}
-use Rattle.drawing_tests.specs.Files.{nIn, sIn, linesFrom, lineCount, linesEnd, headTests, bodyTests, fileTests}
+use Rattle.drawing_judging.specs.Starting.{startTests}
+use Rattle.drawing_judging.specs.Files.{nIn, sIn, linesFrom, lineCount, linesEnd, headTests, bodyTests, fileTests}
 
 module _ (f : List ℕ) where
   -- ---- the header

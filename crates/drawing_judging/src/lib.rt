@@ -11,8 +11,8 @@ ghost use lib.ListN.{length};
 ghost use Rattle.rules.specs.Basics.{between};
 ghost use Rattle.rules.specs.Refusals.{answer};
 ghost use Rattle.line_records.specs.Lines.{linesAt};
-ghost use Rattle.drawing_tests.specs.Files.{headTests, bodyTests, fileTests};
-ghost use Rattle.drawing_tests.specs.Starting.{startTests};
+ghost use Rattle.drawing_judging.specs.Files.{headTests, bodyTests, fileTests};
+ghost use Rattle.drawing_judging.specs.Starting.{startTests};
 
 // Whether v lies from low to high.
 fn lies(v: u16, low: u16, high: u16) -> bool
