@@ -5,8 +5,8 @@ use mathlib.Core.Bool.{Bool, true, false, not, _&&_}
 use mathlib.Core.List.{List}
 use native.Mathlib.Omega.{arith}
 use lib.ListN.{length}
-use lib.Dec.{ltb, leb}
-use borrow.Author.Tests.{leb-true, not-false}
+use lib.Dec.{ltb}
+use borrow.Author.Tests.{not-false}
 use Rattle.rules.specs.declared.Refusal.{Refusal}
 use Rattle.rules.specs.declared.Refusal.the-variants.{OutOfRange, ExtraBytes}
 use Rattle.rules.specs.Basics.{between}
@@ -14,6 +14,7 @@ use Rattle.rules.specs.Refusals.{Result, good, _>>_, refuseIf}
 use Rattle.rules.specs.Records.{Found}
 use Rattle.words.specs.Bytes.{wordAt}
 use Rattle.records.specs.Results.{both}
+use Rattle.records.specs.Ranges.{both-true, in-range}
 use Rattle.records.specs.Marked.{recordTests, records-there}
 use Rattle.line_records.specs.Lines.{linesAt}
 use Rattle.drawing_judging.specs.Starting.{startTests}
@@ -67,17 +68,13 @@ unrefused : (t : Bool) (r : Refusal) (p : ℕ) → refuseIf t r p ≡ good tt �
 unrefused true r p h = cc
 unrefused false r p h = refl
 
-both-true : (a b : Bool) → (a && b) ≡ true → (a ≡ true) × (b ≡ true)
-both-true true b h = (refl, h)
-both-true false b h = (h, cc)
-
 pub head-tells : (f : List ℕ) → headTests f ≡ good tt → (10 ≤ length f) × (3 ≤ nIn f) × (nIn f ≤ 1024)
 unfolding headTests
 head-tells f h =
     let t = both (recordTests f 0x4448 4 1 0) _ h in
     let r = both-true (between 3 1024 (nIn f)) (between 1 8 (sIn f)) (not-false _ (unrefused _ OutOfRange 0 (t .1))) in
-    let n = both-true (leb 3 (nIn f)) (leb (nIn f) 1024) (r .0) in
-    (records-there f 0x4448 4 1 0 (omega arith) (t .0), leb-true 3 (nIn f) (n .0), leb-true (nIn f) 1024 (n .1))
+    let n = in-range 3 1024 (nIn f) (r .0) in
+    (records-there f 0x4448 4 1 0 (omega arith) (t .0), n .0, n .1)
 
 pub body-tells : (f : List ℕ) (n : ℕ) → 10 ≤ length f → bodyTests f n ≡ good tt → linesEnd n ≤ length f
 unfolding bodyTests

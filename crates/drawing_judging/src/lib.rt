@@ -1,5 +1,6 @@
 // All tests of a drawing file before the groups of points 4 to n: 1, 2, 3 on the header, 1 and 2 on all other records, 10, then 4.
 use line_records::line_joins;
+use records::lies;
 use records::marks;
 use rules::Answer;
 use rules::Refusal;
@@ -8,21 +9,10 @@ use words::word_at;
 ghost use mathlib.Core.Path.{_≡_};
 ghost use Prim.Native.Nat.{_+_, _*_, _≤_};
 ghost use lib.ListN.{length};
-ghost use Rattle.rules.specs.Basics.{between};
 ghost use Rattle.rules.specs.Refusals.{answer};
 ghost use Rattle.line_records.specs.Lines.{linesAt};
 ghost use Rattle.drawing_judging.specs.Files.{headTests, bodyTests, fileTests};
 ghost use Rattle.drawing_judging.specs.Starting.{startTests};
-
-// Whether v lies from low to high.
-fn lies(v: u16, low: u16, high: u16) -> bool
-    ensures { λ r. ⌜ r ≡ between low high v ⌝ }
-{
-    if v < low {
-        return false;
-    }
-    v <= high
-}
 
 // 1, 2, 3 on the header: n from 3 to 1,024, s from 1 to 8.
 fn judge_head(f: &[u8]) -> Answer

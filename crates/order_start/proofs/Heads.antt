@@ -5,7 +5,7 @@ use mathlib.Core.Bool.{true, false}
 use mathlib.Core.List.{List, [], _∷_}
 use native.Mathlib.Omega.{arith}
 use lib.ListN.{length}
-use borrow.Author.Tests.{eq-eqb, ne-eqb, le-leb, lt-leb}
+use borrow.Author.Tests.{eq-eqb, ne-eqb}
 use Rattle.rules.specs.declared.Refusal.{Refusal}
 use Rattle.rules.specs.declared.Refusal.the-variants.{OutOfRange}
 use Rattle.rules.specs.Basics.{between}
@@ -13,21 +13,11 @@ use Rattle.rules.specs.Refusals.{good, refused, _>>=_}
 use Rattle.rules.specs.Records.{readRecord, orderHead, scaleShape}
 use Rattle.rules.specs.OrderFile.{givenScale, readScale, readPoints, readOrder}
 use Rattle.words.specs.Bytes.{wordAt}
+use Rattle.records.specs.Ranges.{in-range}
 use Rattle.records.specs.Cursors.{cursor, found, none-left, one-left}
 use Rattle.order_start.specs.declared.Head.{Head}
 use Rattle.order_start.specs.declared.Head.the-variants as head
 use Rattle.order_start.specs.Heading.{ScaleRead, HeadRead}
-
--- ---- a number against its bounds
-module _ (a b v : ℕ) where
-  pub below : v < a → between a b v ≡ false
-  below l = rw (lt-leb a v l)
-
-  pub above : a ≤ v → b < v → between a b v ≡ false
-  above k l = rw (le-leb a v k, lt-leb v b l)
-
-  pub within : a ≤ v → v ≤ b → between a b v ≡ true
-  within k l = rw (le-leb a v k, le-leb v b l)
 
 -- a scale is marked behind the header
 pub record Marked (f : List ℕ) : Type 0 where
@@ -73,7 +63,8 @@ module _ (f : List ℕ) where
     head-in b = rw (e, b)
 
     -- with the scale
-    pub head-scale : (h : Head) → 3 ≤ n → n ≤ 1024 → ScaleRead f n h → HeadRead f h
-    head-scale (head.Given m s at) low high t =
-        (omega (arith, t .0), omega (arith, t .0), t .1, head-in (within 3 1024 n low high) ∙ rw (t .2, t .0))
-    head-scale (head.Refused r p) low high t = head-in (within 3 1024 n low high) ∙ rw t
+    pub head-scale : (h : Head) → between 3 1024 n ≡ true → ScaleRead f n h → HeadRead f h
+    head-scale (head.Given m s at) b t =
+        let r = in-range 3 1024 n b in
+        (omega (arith, t .0, r .0), omega (arith, t .0, r .1), t .1, head-in b ∙ rw (t .2, t .0))
+    head-scale (head.Refused r p) b t = head-in b ∙ rw t

@@ -2,6 +2,7 @@
 use entries::point_of;
 use records::Entries;
 use records::Number;
+use records::lies;
 use records::read_entries;
 use records::read_number;
 use rules::Refusal;
@@ -43,10 +44,7 @@ fn read_scale(f: &[u8], n: usize) -> Head
     match read_number(f, 4, 0x5343) {
         Number::Refused(r, p) => Head::Refused(r, p),
         Number::Given(s) => {
-            if s < 2 {
-                return Head::Refused(Refusal::OutOfRange, 4);
-            }
-            if 8 < s {
+            if !lies(s, 2, 8) {
                 return Head::Refused(Refusal::OutOfRange, 4);
             }
             Head::Given {
@@ -65,10 +63,7 @@ pub fn read_head(f: &[u8]) -> Head
     match read_number(f, 0, 0x4844) {
         Number::Refused(r, p) => Head::Refused(r, p),
         Number::Given(n) => {
-            if n < 3 {
-                return Head::Refused(Refusal::OutOfRange, 0);
-            }
-            if 1024 < n {
+            if !lies(n, 3, 1024) {
                 return Head::Refused(Refusal::OutOfRange, 0);
             }
             read_scale(f, broad(n))

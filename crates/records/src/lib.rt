@@ -6,6 +6,7 @@ use words::word_at;
 ghost use mathlib.Core.Path.{_≡_};
 ghost use Prim.Native.Nat.{_+_, _*_, _≤_};
 ghost use lib.ListN.{length, take, drop};
+ghost use Rattle.rules.specs.Basics.{between};
 ghost use Rattle.rules.specs.Refusals.{answer};
 ghost use Rattle.rules.specs.Records.{wordsIn, several, readEnd};
 ghost use Rattle.records.specs.Cursors.{cursor, markAt, plainShape};
@@ -122,4 +123,14 @@ pub fn read_end(f: &[u8], at: usize) -> Answer
         return Answer::Refused(Refusal::ExtraBytes, behind);
     }
     Answer::Accepted
+}
+
+// Whether v lies from low to high.
+pub fn lies(v: u16, low: u16, high: u16) -> bool
+    ensures { λ r. ⌜ r ≡ between low high v ⌝ }
+{
+    if v < low {
+        return false;
+    }
+    v <= high
 }

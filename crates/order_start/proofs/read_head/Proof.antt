@@ -1,12 +1,13 @@
 -- `order_start::read_head` meets its contract.
 use Prim.Native.Nat.{ℕ}
-use mathlib.Core.Path.{subst}
+use mathlib.Core.Path.{subst, sym, _∙_}
 use mathlib.Core.List.{List}
 use Rattle.records.specs.declared.Number.the-variants as number
 use Rattle.records.specs.Reading.{NumberRead}
 use Rattle.order_start.specs.Heading.{ScaleRead}
-use Rattle.order_start.proofs.Heads.{below, above, bad-head, head-out, head-scale}
+use Rattle.order_start.proofs.Heads.{bad-head, head-out, head-scale}
 use borrow.Author.Needs.{needs}
+use borrow.Author.Tests.{not-true, not-false}
 use Rattle.order_start.proofs.read_head.Statement.{statement}
 use Rattle.order_start.proofs.read_head.Tie as tie
 
@@ -30,15 +31,13 @@ enum-known-r c = search needs
 enum-known-n : tie.Need-enum-known-n
 enum-known-n c = search needs
 
+lies-requires : tie.Need-lies-requires
+lies-requires c κs = search needs
+
 returns : tie.Need-returns
 returns c =
-    let d = c .before in
-    head-out (file (d .before .before .before)) (given d) (number-read d .1) (below 3 1024 (given d) (c .if1 .taken))
-
-returns-2 : tie.Need-returns-2
-returns-2 c =
     let d = c .before .before in
-    head-out (file (d .before .before .before)) (given d) (number-read d .1) (above 3 1024 (given d) (c .before .if1 .left) (c .if2 .taken))
+    head-out (file (d .before .before .before)) (given d) (number-read d .1) (sym (c .before .lies .ensures) ∙ not-true _ (c .if1 .taken))
 
 broad-requires : tie.Need-broad-requires
 broad-requires c κs = search needs
@@ -46,16 +45,17 @@ broad-requires c κs = search needs
 read-scale-requires : tie.Need-read-scale-requires
 read-scale-requires c κs = number-read (c .before .before .before) .0
 
-returns-3 : tie.Need-returns-3
-returns-3 c =
+returns-2 : tie.Need-returns-2
+returns-2 c =
     let d = c .before .before .before in
     bad-head (file d) _ _ (subst (NumberRead (file d) 0 0x4844) (c .before .r .given .1) (d .read-number .ensures))
 
-returns-4 : tie.Need-returns-4
-returns-4 c =
+returns-3 : tie.Need-returns-3
+returns-3 c =
     let b = c .before in
-    let d = b .before .before .before in
-    head-scale (file (d .before .before .before)) (given d) (number-read d .1) (c .read-scale .result) (b .before .before .if1 .left) (b .before .if2 .left)
+    let l = b .before .before in
+    let d = l .before in
+    head-scale (file (d .before .before .before)) (given d) (number-read d .1) (c .read-scale .result) (sym (l .lies .ensures) ∙ not-false _ (b .before .if1 .left))
     (subst (λ (n : ℕ). ScaleRead (file (d .before .before .before)) n (c .read-scale .result)) (b .broad .ensures) (c .read-scale .ensures))
 
 pub read-head-spec : {M : Type 1} → statement M
@@ -65,9 +65,9 @@ read-head-spec =
     read-number-requires
     enum-known-r
     enum-known-n
+    lies-requires
     returns
-    returns-2
     broad-requires
     read-scale-requires
-    returns-3
-    returns-4)
+    returns-2
+    returns-3)

@@ -1,11 +1,12 @@
 -- `order_start::read_scale` meets its contract.
 use mathlib.Core.Path.{refl, subst, sym, _∙_}
 use Rattle.records.specs.Reading.{NumberRead}
-use Rattle.order_start.proofs.Heads.{Marked, below, above, within, no-scale, other-mark, bad-scale, scale-out, scale-in}
+use Rattle.order_start.proofs.Heads.{Marked, no-scale, other-mark, bad-scale, scale-out, scale-in}
 use mathlib.Core.List.{List}
 use Prim.Native.Nat.{ℕ}
 use Rattle.records.specs.declared.Number.the-variants as number
 use borrow.Author.Needs.{needs}
+use borrow.Author.Tests.{not-true, not-false}
 use Rattle.order_start.proofs.read_scale.Statement.{statement}
 use Rattle.order_start.proofs.read_scale.Tie as tie
 
@@ -43,29 +44,28 @@ enum-known-r c = search needs
 enum-known-s : tie.Need-enum-known-s
 enum-known-s c = search needs
 
+lies-requires : tie.Need-lies-requires
+lies-requires c κs = search needs
+
 returns-3 : tie.Need-returns-3
 returns-3 c =
-    let d = c .before in
-    scale-out (marked (d .before .before .before .before)) (given d) (number-read d .1) (below 2 8 (given d) (c .if3 .taken))
-
-returns-4 : tie.Need-returns-4
-returns-4 c =
     let d = c .before .before in
-    scale-out (marked (d .before .before .before .before)) (given d) (number-read d .1) (above 2 8 (given d) (c .before .if3 .left) (c .if4 .taken))
+    scale-out (marked (d .before .before .before .before)) (given d) (number-read d .1) (sym (c .before .lies .ensures) ∙ not-true _ (c .if3 .taken))
 
 broad-requires : tie.Need-broad-requires
 broad-requires c κs = search needs
 
-returns-5 : tie.Need-returns-5
-returns-5 c =
+returns-4 : tie.Need-returns-4
+returns-4 c =
     let d = c .before .before .before in
     bad-scale (marked (d .before)) _ _ (subst (NumberRead (file (d .before .before .before .before .before)) 4 0x5343) (c .before .r .given .1) (d .read-number .ensures))
 
-returns-6 : tie.Need-returns-6
-returns-6 c =
-    let d = c .before .before .before in
+returns-5 : tie.Need-returns-5
+returns-5 c =
+    let l = c .before .before in
+    let d = l .before in
     let n = number-read d in
-    (refl, n .0, rw (c .broad .ensures) (scale-in (marked (d .before .before .before .before)) (given d) (n .1) (within 2 8 (given d) (c .before .before .if3 .left) (c .before .if4 .left))))
+    (refl, n .0, rw (c .broad .ensures) (scale-in (marked (d .before .before .before .before)) (given d) (n .1) (sym (l .lies .ensures) ∙ not-false _ (c .before .if3 .left))))
 
 pub read-scale-spec : {M : Type 1} → statement M
 read-scale-spec =
@@ -77,8 +77,8 @@ read-scale-spec =
     read-number-requires
     enum-known-r
     enum-known-s
+    lies-requires
     returns-3
-    returns-4
     broad-requires
-    returns-5
-    returns-6)
+    returns-4
+    returns-5)

@@ -1,7 +1,7 @@
--- `drawing_judging::lies` meets its contract.
+-- `records::lies` meets its contract.
 use borrow.Author.Tests.{lt-leb, le-leb}
-use Rattle.drawing_judging.proofs.lies.Statement.{statement}
-use Rattle.drawing_judging.proofs.lies.Tie as tie
+use Rattle.records.proofs.lies.Statement.{statement}
+use Rattle.records.proofs.lies.Tie as tie
 
 returns : tie.Need-returns
 returns c = rw (lt-leb _ _ (c .if1 .taken))
