@@ -1,17 +1,18 @@
 -- Which test of the header and of the records behind it gives the answer, from what the tests before it have shown.
-use Prim.Native.Nat.{ℕ, _+_, _<_, _≤_}
-use mathlib.Core.Path.{_≡_, refl, ap, _∙_}
+use Prim.Native.Nat.{ℕ, _≤_}
+use mathlib.Core.Path.{_≡_, ap, _∙_}
 use mathlib.Core.Bool.{true, false}
 use mathlib.Core.List.{List}
 use native.Mathlib.Omega.{arith}
 use lib.ListN.{length}
-use borrow.Author.Tests.{lt-ltb, le-ltb}
 use Rattle.rules.specs.declared.Refusal.{Refusal}
-use Rattle.rules.specs.declared.Refusal.the-variants.{OutOfRange, ExtraBytes}
+use Rattle.rules.specs.declared.Refusal.the-variants.{OutOfRange}
 use Rattle.rules.specs.declared.Answer.the-variants.{Accepted, Refused}
 use Rattle.rules.specs.Basics.{between}
-use Rattle.rules.specs.Refusals.{Result, good, refused, _>>_, answer}
+use Rattle.rules.specs.Refusals.{Result, _>>_, answer}
+use Rattle.rules.specs.Records.{readEnd}
 use Rattle.records.specs.Results.{accepted, stops, goes-on}
+use Rattle.records.specs.Cursors.{cursor}
 use Rattle.records.specs.Marked.{recordTests, records-there}
 use Rattle.line_records.specs.Lines.{linesAt}
 use Rattle.drawing_judging.specs.Starting.{startTests}
@@ -52,9 +53,6 @@ module _ (f : List ℕ) where
     abbrev lines : Result (Unit {0})
     lines = recordTests f 0x4C4E 5 (lineCount n) (linesFrom n)
 
-    abbrev ends : Result (Unit {0})
-    ends = recordTests f 0x454E 0 1 (linesEnd n)
-
     pub points-stop : (r : Refusal) (p : ℕ) → answer points ≡ Refused r p → answer points ≡ answer (bodyTests f n)
     unfolding bodyTests
     points-stop r p h = stops points _ r p h
@@ -71,21 +69,9 @@ module _ (f : List ℕ) where
         pub lines-there : linesEnd n ≤ length f
         lines-there = records-there f 0x4C4E 5 (lineCount n) (linesFrom n) points-there (accepted lines g)
 
-        pub end-stops : (r : Refusal) (p : ℕ) → answer ends ≡ Refused r p → answer ends ≡ answer (bodyTests f n)
+        pub end-says : answer (readEnd (cursor f (linesEnd n))) ≡ answer (bodyTests f n)
         unfolding bodyTests
-        end-stops r p q = stops ends _ r p q ∙ goes-on lines _ g ∙ goes-on points _ h
-
-        module _ (k : answer ends ≡ Accepted) where
-          pub end-there : linesEnd n + 2 ≤ length f
-          end-there = records-there f 0x454E 0 1 (linesEnd n) lines-there (accepted ends k)
-
-          pub more-behind : linesEnd n + 2 < length f → Refused ExtraBytes (linesEnd n + 2) ≡ answer (bodyTests f n)
-          unfolding bodyTests
-          more-behind q = rw (accepted points h, accepted lines g, accepted ends k, lt-ltb (linesEnd n + 2) (length f) q)
-
-          pub none-behind : length f ≤ linesEnd n + 2 → Accepted ≡ answer (bodyTests f n)
-          unfolding bodyTests
-          none-behind q = rw (accepted points h, accepted lines g, accepted ends k, le-ltb (linesEnd n + 2) (length f) q)
+        end-says = goes-on lines _ g ∙ goes-on points _ h
 
   -- ---- the header, the records, points 1 to 3
 

@@ -5,16 +5,16 @@ use mathlib.Core.Bool.{Bool, true, false, not, _&&_}
 use mathlib.Core.List.{List}
 use native.Mathlib.Omega.{arith}
 use lib.ListN.{length}
-use lib.Dec.{ltb}
 use borrow.Author.Tests.{not-false}
 use Rattle.rules.specs.declared.Refusal.{Refusal}
-use Rattle.rules.specs.declared.Refusal.the-variants.{OutOfRange, ExtraBytes}
+use Rattle.rules.specs.declared.Refusal.the-variants.{OutOfRange}
 use Rattle.rules.specs.Basics.{between}
 use Rattle.rules.specs.Refusals.{Result, good, _>>_, refuseIf}
-use Rattle.rules.specs.Records.{Found}
+use Rattle.rules.specs.Records.{Found, readEnd}
 use Rattle.words.specs.Bytes.{wordAt}
 use Rattle.records.specs.Results.{both}
 use Rattle.records.specs.Ranges.{both-true, in-range}
+use Rattle.records.specs.Cursors.{cursor}
 use Rattle.records.specs.Marked.{recordTests, records-there}
 use Rattle.line_records.specs.Lines.{linesAt}
 use Rattle.drawing_judging.specs.Starting.{startTests}
@@ -51,8 +51,7 @@ unfoldable pub bodyTests : List ℕ → ℕ → Result (Unit {0})
 bodyTests f n = do
   recordTests f 0x504F 2 n 10
   recordTests f 0x4C4E 5 (lineCount n) (linesFrom n)
-  recordTests f 0x454E 0 1 (linesEnd n)
-  refuseIf (ltb (linesEnd n + 2) (length f)) ExtraBytes (linesEnd n + 2)
+  readEnd (cursor f (linesEnd n))
 
 -- "1, 2, 3 on the header, 1 and 2 on all other records, 10, then 4"
 unfoldable pub fileTests : List ℕ → Result (Unit {0})

@@ -2,6 +2,7 @@
 use line_records::line_joins;
 use records::lies;
 use records::marks;
+use records::read_end;
 use rules::Answer;
 use rules::Refusal;
 use words::broad;
@@ -46,14 +47,7 @@ fn judge_body(f: &[u8], n: usize) -> Answer
         return lines;
     };
     let end = from + 12 * (3 * n - 6);
-    let last = marks(f, end, 0x454E, 0, 1);
-    let Answer::Accepted = last else {
-        return last;
-    };
-    if end + 2 < f.len() {
-        return Answer::Refused(Refusal::ExtraBytes, end + 2);
-    }
-    Answer::Accepted
+    read_end(f, end)
 }
 
 // 4 on the `left` lines from `at` on: point 1 has none, point 2 has 2-1, point 3 has 3-1 and 3-2.

@@ -1,8 +1,8 @@
 -- What the functions of this crate ask and leave.
 use Prim.Native.Nat.{ℕ, suc, _+_, _-_, _*_, _≤_}
 use mathlib.Core.Path.{_≡_}
-use mathlib.Core.List.{List, map}
-use lib.ListN.{length, take}
+use mathlib.Core.List.{List}
+use lib.ListN.{length}
 use Rattle.rules.specs.declared.Answer.{Answer}
 use Rattle.rules.specs.declared.Answer.the-variants.{Accepted, Refused}
 use Rattle.rules.specs.Refusals.{Result, good, answer, placed}

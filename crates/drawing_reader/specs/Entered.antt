@@ -10,9 +10,9 @@ use borrow.Author.Tests.{ne-eqb, ltb-true, ltb-false, lt-ltb}
 use Rattle.rules.specs.declared.Entry.{Entry}
 use Rattle.rules.specs.declared.Refusal.{Refusal}
 use Rattle.rules.specs.declared.Refusal.the-variants.{Finished, FewEntries, NotPlaced, Covered}
-use Rattle.rules.specs.Basics.{if_then_else_, elem}
+use Rattle.rules.specs.Basics.{elem}
 use Rattle.rules.specs.Refusals.{Result, good, refused, _>>_, refuseIf}
-use Rattle.rules.specs.Entries.{entryOf, wordOf}
+use Rattle.rules.specs.Entries.{entryOf}
 use Rattle.rules.specs.Points.{Drawing}
 use Rattle.rules.specs.Adding.{pointsOf, entryTests, judge, addEntries, add}
 use Rattle.rules.specs.RoundTrip.{entry-back}

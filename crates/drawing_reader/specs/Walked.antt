@@ -1,13 +1,11 @@
 -- Judging a drawing file, by the tests on its header and records at their offsets.
-use Prim.Native.Nat.{ℕ, _+_, _-_, _*_, _≤_}
+use Prim.Native.Nat.{ℕ, _-_, _*_, _≤_}
 use mathlib.Core.Path.{_≡_, refl, ap, ap₂, _∙_}
-use mathlib.Core.Bool.{Bool, true, false, not, _&&_}
+use mathlib.Core.Bool.{not, _&&_}
 use mathlib.Core.List.{List}
 use native.Mathlib.Omega.{arith}
-use lib.ListN.{length, getD, length-drop}
-use lib.Dec.{ltb}
-use borrow.Author.Tests.{lt-ltb, le-ltb, ltb-true, ltb-false}
-use Rattle.rules.specs.declared.Refusal.the-variants.{OutOfRange, ExtraBytes}
+use lib.ListN.{length, getD}
+use Rattle.rules.specs.declared.Refusal.the-variants.{OutOfRange}
 use Rattle.rules.specs.Basics.{between}
 use Rattle.rules.specs.Refusals.{Result, good, refused, _>>_, _>>=_, refuseIf}
 use Rattle.rules.specs.Points.{Drawing}
@@ -21,22 +19,6 @@ use Rattle.drawing_judging.specs.Files.{nIn, sIn, linesFrom, lineCount, linesEn
 use Rattle.drawing_reader.specs.Judged.{judgeDrawing}
 
 module _ (f : List ℕ) where
-  extra : (at : ℕ) → ltb 0 (length f - at) ≡ ltb at (length f)
-  extra at = go (ltb at (length f)) refl
-    where
-      go : (t : Bool) → ltb at (length f) ≡ t → ltb 0 (length f - at) ≡ t
-      go true q = let l = ltb-true at (length f) q in lt-ltb 0 (length f - at) (omega arith)
-      go false q = let l = ltb-false at (length f) q in le-ltb 0 (length f - at) (omega arith)
-
-  -- the end record, then 10
-  end-is : (at : ℕ) → readEnd (cursor f at) ≡ (recordTests f 0x454E 0 1 at >> refuseIf (ltb (at + 2) (length f)) ExtraBytes (at + 2))
-  unfolding recordTests
-  end-is at =
-      let ends = recordTest f 0x454E 0 at in
-      ap (λ (t : Result Found). t >>= λ g. refuseIf (ltb 0 (length (g .next .bytes))) ExtraBytes (g .next .offset)) (record-is f 0x454E 0 at) ∙
-      then-value ends (recordAt f 0 at) _ (refuseIf (ltb (at + 2) (length f)) ExtraBytes (at + 2)) (rw (length-drop (at + 2) f, extra (at + 2))) ∙
-      then-then ends (good tt) _
-
   -- the records behind the header
   abbrev behindHead : ℕ → ℕ → Cursor → Result Drawing
   behindHead n s at = do
@@ -50,11 +32,10 @@ module _ (f : List ℕ) where
   behind-head n s =
       let points = recordTests f 0x504F 2 n 10 in
       let lines = recordTests f 0x4C4E 5 (lineCount n) (linesFrom n) in
-      let judged = judgeLines n s (linesEnd n) (linesAt f (lineCount n) (linesFrom n)) in
       ap (λ (t : Result Several). t >>= λ ps. several (3 * n - 6) lineShape (ps .next) >>= λ ls. readEnd (ls .next) >> judgeLines n s (ls .next .offset) (ls .all)) (several-is f 0x504F 2 n 10) ∙
       then-value points _ _ _
       (ap (λ (t : Result Several). t >>= λ ls. readEnd (ls .next) >> judgeLines n s (ls .next .offset) (ls .all)) (several-is f 0x4C4E 5 (lineCount n) (linesFrom n)) ∙
-      then-value lines _ _ _ (ap (λ (t : Result (Unit {0})). t >> judged) (end-is (linesEnd n)))) ∙
+      then-value lines _ _ _ refl) ∙
       simp then-then
 
   -- everything behind the header's mark, by its n and s

@@ -1,5 +1,5 @@
 -- The bytes of a file from an offset on, and a record read there, by the file's length and the numbers in it.
-use Prim.Native.Nat.{ℕ, zero, suc, _+_, _-_, _*_, _<_, _≤_}
+use Prim.Native.Nat.{ℕ, zero, suc, _+_, _*_, _<_, _≤_}
 use mathlib.Core.Path.{_≡_, refl, ap, _∙_}
 use mathlib.Core.Bool.{Bool, true, false, not}
 use mathlib.Core.List.{List, [], _∷_, _++_}
@@ -12,7 +12,7 @@ use borrow.Author.Tests.{lt-ltb, le-ltb, ltb-true, ltb-false}
 use Rattle.rules.specs.declared.Refusal.{Refusal}
 use Rattle.rules.specs.declared.Refusal.the-variants.{FileEnds, WrongMark, ExtraBytes}
 use Rattle.rules.specs.declared.Answer.the-variants.{Accepted, Refused}
-use Rattle.rules.specs.Refusals.{Result, good, refused, answer, _>>_, _>>=_, refuseIf}
+use Rattle.rules.specs.Refusals.{Result, good, refused, answer, _>>_, refuseIf}
 use Rattle.rules.specs.Records.{Shape, plain, Cursor, Found, wordsIn, wordsAt, restOf, readRecord, readEnd, pointEntries, endShape}
 use Rattle.words.specs.Bytes.{wordAt}
 use Rattle.records.specs.Results.{answer-refused, accepted}

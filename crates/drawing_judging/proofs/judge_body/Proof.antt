@@ -5,8 +5,8 @@ use borrow.Author.Needs.{needs}
 use Rattle.rules.specs.declared.Answer.the-variants.{Accepted}
 use Rattle.rules.specs.Refusals.{answer}
 use Rattle.records.specs.Marked.{recordTests, several-answer}
-use Rattle.drawing_judging.specs.Files.{linesFrom, lineCount, linesEnd}
-use Rattle.drawing_judging.proofs.Stages.{points-stop, points-there, lines-stop, lines-there, end-stops, more-behind, none-behind}
+use Rattle.drawing_judging.specs.Files.{linesFrom, lineCount}
+use Rattle.drawing_judging.proofs.Stages.{points-stop, points-there, lines-stop, lines-there, end-says}
 use Rattle.drawing_judging.proofs.judge_body.Statement.{statement}
 use Rattle.drawing_judging.proofs.judge_body.Tie as tie
 
@@ -17,10 +17,6 @@ points d = sym (d .before .before .marks .ensures ∙ several-answer _ _ _ _ _) 
 -- once the lines stand
 lines : (d : tie.After-enum-told3) → let a = d .before .before .before .before .before .before .before .args in answer (recordTests (a .f .now) 0x4C4E 5 (lineCount (a .n)) (linesFrom (a .n))) ≡ Accepted
 lines d = sym (d .before .before .marks2 .ensures ∙ several-answer _ _ _ _ _) ∙ d .enum-told3 .given .1
-
--- once the end stands
-ends : (d : tie.After-enum-told5) → let a = d .before .before .before .before .before .before .before .before .before .before .args in answer (recordTests (a .f .now) 0x454E 0 1 (linesEnd (a .n))) ≡ Accepted
-ends d = sym (d .before .before .marks3 .ensures ∙ several-answer _ _ _ _ _) ∙ d .enum-told5 .given .1
 
 marks-requires : tie.Need-marks-requires
 marks-requires c κs = search needs
@@ -75,43 +71,14 @@ mul-end-2 c = search needs
 add-end : tie.Need-add-end
 add-end c = search needs
 
-marks-requires-3 : tie.Need-marks-requires-3
-marks-requires-3 c κs =
-    let d = c .before .before .before in
-    (lines-there _ _ (d .before .before .before .before .pre .0) (points d) (lines c), omega arith)
-
-enum-told-5 : tie.Need-enum-told-5
-enum-told-5 c = search needs
-
-enum-told-6 : tie.Need-enum-told-6
-enum-told-6 c = search needs
+read-end-requires : tie.Need-read-end-requires
+read-end-requires c κs = let d = c .before .before .before in omega (arith, lines-there _ _ (d .before .before .before .before .pre .0) (points d) (lines c))
 
 returns-3 : tie.Need-returns-3
 returns-3 c =
-    let l = c .before .before .before in
+    let l = c .before in
     let d = l .before .before .before in
-    let t = c .before .before .marks3 .ensures ∙ several-answer _ _ _ _ _ in
-    t ∙ end-stops _ _ (d .before .before .before .before .pre .0) (points d) (lines l) _ _ (sym t ∙ c .enum-told6 .given .1)
-
-add-if1 : tie.Need-add-if1
-add-if1 c = search needs
-
-add-t13 : tie.Need-add-t13
-add-t13 c = search needs
-
-returns-4 : tie.Need-returns-4
-returns-4 c =
-    let e = c .before in
-    let l = e .before .before .before in
-    let d = l .before .before .before in
-    more-behind _ _ (d .before .before .before .before .pre .0) (points d) (lines l) (ends e) (c .if1 .taken)
-
-returns-5 : tie.Need-returns-5
-returns-5 c =
-    let e = c .before in
-    let l = e .before .before .before in
-    let d = l .before .before .before in
-    none-behind _ _ (d .before .before .before .before .pre .0) (points d) (lines l) (ends e) (c .if1 .left)
+    c .read-end .ensures ∙ end-says _ _ (d .before .before .before .before .pre .0) (points d) (lines l)
 
 pub judge-body-spec : {M : Type 1} → statement M
 judge-body-spec =
@@ -133,11 +100,5 @@ judge-body-spec =
     sub-end
     mul-end-2
     add-end
-    marks-requires-3
-    enum-told-5
-    enum-told-6
-    returns-3
-    add-if1
-    add-t13
-    returns-4
-    returns-5)
+    read-end-requires
+    returns-3)
