@@ -1,4 +1,4 @@
-// The line records of a drawing file: the points that a line joins, its entry as a call takes it, and a point's group of lines.
+// The line records of a drawing file: the points that a line joins, its entry as a call takes it, and a point's group of lines. The functions ask that the records lie in the file; the reader above has tested it.
 use rules::Entry;
 use words::word_at;
 ghost use mathlib.Core.Path.{_≡_};

@@ -1,4 +1,4 @@
-// Records in the bytes of a file: marks and numbers, as both files have them.
+// Records in the bytes of a file: marks and numbers, as both files have them. The functions ask that the offset lies in the file; the readers above know it.
 use rules::Answer;
 use rules::Refusal;
 use words::broad;
