@@ -1,6 +1,6 @@
 -- A group that was taken and added: the answer is that of the rules, at the group's place, and the lines behind the group are next.
 use Prim.Native.Nat.{ℕ, suc, _+_, _-_, _*_, _≤_}
-use mathlib.Core.Path.{_≡_, refl, ap, sym, _∙_}
+use mathlib.Core.Path.{_≡_, refl, ap, ap₂, sym, _∙_}
 use mathlib.Core.List.{List, map}
 use native.Mathlib.Omega.{arith}
 use lib.ListN.{length, take}
@@ -19,9 +19,10 @@ use Rattle.links.specs.Arrays.{Arrays}
 use Rattle.links.specs.Storing.{judged, countsAfter}
 use Rattle.stored.specs.Adding.{Holds, called}
 use Rattle.adding.specs.Calls.{Answered}
-use Rattle.drawing_reader.specs.Groups.{group-place}
-use Rattle.drawing_reader.specs.Entered.{numberFor, add-alike}
-use Rattle.drawing_reader.specs.Contracted.{Taken, answerAt, linesBehind, nextGroup, GroupBehind, Grouped}
+use Rattle.line_records.specs.Lines.{group-place}
+use Rattle.line_records.specs.Groups.{numberFor, Taken}
+use Rattle.drawing_reader.specs.Entered.{add-alike}
+use Rattle.drawing_reader.specs.Contracted.{answerAt, linesBehind, nextGroup, GroupBehind, Grouped}
 
 -- a refusal at a place
 answer-at : {A : Type 0} (p : ℕ) (z : Result A) → answerAt p (answer z) ≡ answer (placed p z)
@@ -60,7 +61,7 @@ module _ (f : List ℕ) (base total : ℕ) (a a′ : Arrays) (c : Counts) (r : A
 
   next-is : nextGroup f base total (c .lines) d ≡ placed (base + 12 * c .lines) (add d (take count e))
   unfolding nextGroup
-  next-is = rw (place, entered)
+  next-is = ap₂ placed place entered
 
   group-answers : answerAt (base + 12 * c .lines) (r .answer) ≡ answer (nextGroup f base total (c .lines) d)
   group-answers =

@@ -18,13 +18,13 @@ use Rattle.links.specs.Opening.{openArrays, openCounts}
 use Rattle.promise.specs.Bounds.{standing-start}
 use Rattle.stored.specs.Adding.{Holds}
 use Rattle.stored.specs.Opened.{sized-open, stores-open}
+use Rattle.records.specs.Results.{stops}
+use Rattle.line_records.specs.Lines.{linesAt, lineAt}
+use Rattle.line_records.specs.Groups.{numberFor}
+use Rattle.drawing_judging.specs.Files.{nIn, sIn, linesFrom, lineCount, linesEnd, fileTests}
 use Rattle.drawing_reader.specs.Judged.{judgeDrawing}
-use Rattle.drawing_reader.specs.Files.{nIn, sIn, linesFrom, lineCount, linesEnd, linesAt}
-use Rattle.drawing_reader.specs.Groups.{lineAt}
-use Rattle.drawing_reader.specs.Entered.{numberFor}
-use Rattle.drawing_reader.specs.Whole.{fileTests, judged-so, firstLine, secondLine, thirdLine, begunIn, Passes, number-back}
+use Rattle.drawing_reader.specs.Whole.{judged-so, firstLine, secondLine, thirdLine, begunIn, Passes, number-back}
 use Rattle.drawing_reader.specs.Contracted.{restGroups, AllGrouped, LinesRead}
-use Rattle.drawing_reader.proofs.Stages.{stops}
 
 -- a refusal before the groups
 pub refused-early : {f : List ℕ} {a : Arrays} {c : Counts} (said : Answer) → said ≡ answer (fileTests f) → (r : Refusal) (p : ℕ) → said ≡ Refused r p → LinesRead f a (record { answer = said; counts = c })

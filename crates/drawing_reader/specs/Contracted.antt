@@ -1,8 +1,8 @@
 -- What the functions of this crate ask and leave.
 use Prim.Native.Nat.{ℕ, suc, _+_, _-_, _*_, _≤_}
 use mathlib.Core.Path.{_≡_}
-use mathlib.Core.List.{List, map}
-use lib.ListN.{length, take}
+use mathlib.Core.List.{List}
+use lib.ListN.{length}
 use Rattle.rules.specs.declared.Answer.{Answer}
 use Rattle.rules.specs.declared.Answer.the-variants.{Accepted, Refused}
 use Rattle.rules.specs.Refusals.{Result, good, answer, placed}
@@ -17,15 +17,8 @@ use Rattle.links.specs.Arrays.{Arrays}
 use Rattle.stored.specs.Adding.{Holds}
 use Rattle.adding.specs.Calls.{Ready}
 use Rattle.opening.specs.Zeros.{Zeros}
+use Rattle.line_records.specs.Lines.{linesAt}
 use Rattle.drawing_reader.specs.Judged.{judgeDrawing}
-use Rattle.drawing_reader.specs.Files.{linesAt}
-use Rattle.drawing_reader.specs.Entered.{numberFor}
-
--- the group of point p among the `left` lines from `at` on has c lines, whose entries begin the list e
-pub record Taken (f : List ℕ) (at left p : ℕ) (e : List ℕ) (c : ℕ) : Type 0 where
-  pub few : c ≤ left
-  pub entries : take c e ≡ map numberFor (group p (linesAt f left at))
-  pub rest : behind p (linesAt f left at) ≡ linesAt f (left - c) (at + 12 * c)
 
 -- an answer, with a refusal at this place
 abbrev pub answerAt : ℕ → Answer → Answer

@@ -1,4 +1,4 @@
--- A drawing file's entries as 16-bit numbers. An earlier point of 32768 or more has no such form: 0 stands for it, and a call refuses both alike.
+-- A call with the numbers that stand for a group's entries is judged as the entries are.
 use Prim.Native.Nat.{ℕ, suc, _<_}
 use mathlib.Core.Path.{_≡_, refl, ap, ap₂, sym, _∙_}
 use mathlib.Core.Bool.{Bool, true, false, not, _||_}
@@ -10,19 +10,16 @@ use borrow.Author.Tests.{ne-eqb, ltb-true, ltb-false, lt-ltb}
 use Rattle.rules.specs.declared.Entry.{Entry}
 use Rattle.rules.specs.declared.Refusal.{Refusal}
 use Rattle.rules.specs.declared.Refusal.the-variants.{Finished, FewEntries, NotPlaced, Covered}
-use Rattle.rules.specs.Basics.{if_then_else_, elem}
+use Rattle.rules.specs.Basics.{elem}
 use Rattle.rules.specs.Refusals.{Result, good, refused, _>>_, refuseIf}
-use Rattle.rules.specs.Entries.{entryOf, wordOf}
+use Rattle.rules.specs.Entries.{entryOf}
 use Rattle.rules.specs.Points.{Drawing}
 use Rattle.rules.specs.Adding.{pointsOf, entryTests, judge, addEntries, add}
 use Rattle.rules.specs.RoundTrip.{entry-back}
-use Rattle.drawing_reader.specs.Files.{passed}
+use Rattle.records.specs.Results.{passed}
+use Rattle.line_records.specs.Groups.{numberFor}
 
--- the 16-bit number that stands for an entry
-abbrev pub numberFor : Entry → ℕ
-numberFor e = if ltb (e .point) 32768 then wordOf e else 0
-
--- and read back
+-- an entry, as its number is read back
 abbrev readBack : Entry → Entry
 readBack e = entryOf (numberFor e)
 

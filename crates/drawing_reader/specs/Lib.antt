@@ -1,7 +1,5 @@
 pub mod Judged
-pub mod Marked
-pub mod Files
-pub mod Groups
+pub mod Walked
 pub mod Entered
 pub mod Whole
 pub mod Contracted

@@ -1,39 +1,39 @@
--- All tests of a drawing file before the groups of points 4 to n, what a file that passes them is known to be, and what is left to judge of it.
+-- What a drawing file that passes all tests before the groups of points 4 to n is known to be, and what is left to judge of it.
 use Prim.Native.Nat.{ℕ, _+_, _-_, _<_, _≤_}
 use mathlib.Core.Path.{_≡_, refl, ap, ap₂, sym, _∙_}
-use mathlib.Core.Bool.{Bool, true, false, _&&_}
+use mathlib.Core.Bool.{Bool, true, false}
 use mathlib.Core.List.{List, _∷_}
 use native.Mathlib.Omega.{arith}
 use lib.ListN.{length}
-use lib.Dec.{leb}
-use borrow.Author.Tests.{leb-true, not-false, lt-ltb}
-use Rattle.rules.specs.declared.Refusal.{Refusal}
-use Rattle.rules.specs.declared.Refusal.the-variants.{OutOfRange, OtherStart}
-use Rattle.rules.specs.Basics.{between}
-use Rattle.rules.specs.Refusals.{Result, good, refused, _>>_, refuseIf}
+use borrow.Author.Tests.{eq-eqb, ne-eqb, lt-ltb}
+use Rattle.rules.specs.declared.Refusal.the-variants.{OtherStart}
+use Rattle.rules.specs.Refusals.{Result, good, refused, _>>_}
 use Rattle.rules.specs.Entries.{entryOf, wordOf}
 use Rattle.rules.specs.Points.{Drawing, start}
 use Rattle.rules.specs.Records.{Found}
 use Rattle.rules.specs.RoundTrip.{entry-back}
-use Rattle.rules.specs.DrawingFile.{entryIn, judgeRest}
+use Rattle.rules.specs.OrderFile.{startWith}
+use Rattle.rules.specs.DrawingFile.{laterIn, entryIn, group, behind, judgeRest, judgeLines}
+use Rattle.records.specs.Results.{then-then, both}
+use Rattle.line_records.specs.Lines.{linesAt, lineAt, earlierIn, joins, three-lines}
+use Rattle.line_records.specs.Groups.{numberFor}
+use Rattle.drawing_judging.specs.Files.{nIn, sIn, linesFrom, lineCount, linesEnd, linesOf, headTests, bodyTests, fileTests, head-tells, body-tells}
+use Rattle.drawing_judging.specs.Starting.{joined, nextIs, none-next, startTests, not-2-1, two-of-2, not-3-1, not-3-2, three-of-3}
 use Rattle.drawing_reader.specs.Judged.{judgeDrawing}
-use Rattle.drawing_reader.specs.Marked.{recordTests, then-then}
-use Rattle.drawing_reader.specs.Files.{nIn, sIn, linesFrom, lineCount, linesEnd, linesAt, headTests, bodyTests, both, records-there, judge-is}
-use Rattle.drawing_reader.specs.Groups.{lineAt, earlierIn, joins, joined, nextIs, startTests, begunWith, behindStart, lines-judged, three-lines, not-2-1, two-of-2, not-3-1, not-3-2, three-of-3, begun-is, behind-is}
-use Rattle.drawing_reader.specs.Entered.{numberFor}
+use Rattle.drawing_reader.specs.Walked.{judge-is}
 
--- the lines of a file
-abbrev pub linesOf : List ℕ → List Found
-linesOf f = linesAt f (lineCount (nIn f)) (linesFrom (nIn f))
+-- the drawing that points 1 to 3 begin, and the lines behind theirs
+unfoldable pub begunWith : ℕ → ℕ → List Found → Drawing
+begunWith n s fs = startWith n s (group 2 (behind 1 fs)) (group 3 (behind 2 (behind 1 fs)))
 
--- "1, 2, 3 on the header, 1 and 2 on all other records, 10, then 4"
-unfoldable pub fileTests : List ℕ → Result (Unit {0})
-fileTests f = do
-  headTests f
-  bodyTests f (nIn f)
-  startTests (linesEnd (nIn f)) (linesOf f)
+unfoldable pub behindStart : List Found → List Found
+behindStart fs = behind 3 (behind 2 (behind 1 fs))
 
--- then "5 to 9 on each point's group of lines in turn"
+pub lines-judged : (n s end : ℕ) (fs : List Found) → judgeLines n s end fs ≡ (startTests end fs >> judgeRest (n - 3) end (begunWith n s fs) (behindStart fs))
+unfolding judgeLines startTests begunWith behindStart
+lines-judged n s end fs = simp then-then
+
+-- all tests before, then "5 to 9 on each point's group of lines in turn"
 pub judged-so : (f : List ℕ) →
     judgeDrawing f ≡ (fileTests f >> judgeRest (nIn f - 3) (linesEnd (nIn f)) (begunWith (nIn f) (sIn f) (linesOf f)) (behindStart (linesOf f)))
 unfolding fileTests
@@ -41,32 +41,6 @@ judged-so f =
     judge-is f ∙
     ap (λ (t : Result Drawing). headTests f >> (bodyTests f (nIn f) >> t)) (lines-judged (nIn f) (sIn f) (linesEnd (nIn f)) (linesOf f)) ∙
     simp then-then
-
--- ---- what tests that pass tell
-
--- a test at the end
-unrefused : (t : Bool) (r : Refusal) (p : ℕ) → refuseIf t r p ≡ good tt → t ≡ false
-unrefused true r p h = cc
-unrefused false r p h = refl
-
-both-true : (a b : Bool) → (a && b) ≡ true → (a ≡ true) × (b ≡ true)
-both-true true b h = (refl, h)
-both-true false b h = (h, cc)
-
-pub head-tells : (f : List ℕ) → headTests f ≡ good tt → (10 ≤ length f) × (3 ≤ nIn f) × (nIn f ≤ 1024)
-unfolding headTests
-head-tells f h =
-    let t = both (recordTests f 0x4448 4 1 0) _ h in
-    let r = both-true (between 3 1024 (nIn f)) (between 1 8 (sIn f)) (not-false _ (unrefused _ OutOfRange 0 (t .1))) in
-    let n = both-true (leb 3 (nIn f)) (leb (nIn f) 1024) (r .0) in
-    (records-there f 0x4448 4 1 0 (omega arith) (t .0), leb-true 3 (nIn f) (n .0), leb-true (nIn f) 1024 (n .1))
-
-pub body-tells : (f : List ℕ) (n : ℕ) → 10 ≤ length f → bodyTests f n ≡ good tt → linesEnd n ≤ length f
-unfolding bodyTests
-body-tells f n l h =
-    let p = both (recordTests f 0x504F 2 n 10) _ h in
-    let q = both (recordTests f 0x4C4E 5 (lineCount n) (linesFrom n)) _ (p .1) in
-    records-there f 0x4C4E 5 (lineCount n) (linesFrom n) (records-there f 0x504F 2 n 10 l (p .0)) (q .0)
 
 -- the first three lines are 2-1, 3-1, 3-2, and no more lines are of points 2 and 3
 pub record Begins (x y z : Found) (fs : List Found) : Type 0 where
@@ -102,6 +76,27 @@ start-tells end x y z fs h = a (joins x 2 1) refl
     a : (t : Bool) → joins x 2 1 ≡ t → Begins x y z fs
     a true q = b q (nextIs 2 (y ∷ z ∷ fs)) refl
     a false q = absurd (none-good _ _ h (not-2-1 end x (y ∷ z ∷ fs) q))
+
+-- then the drawing is the one that they begin, and the lines behind theirs are left
+module _ {x y z : Found} {fs : List Found} (t : Begins x y z fs) where
+  abbrev all : List Found
+  all = x ∷ y ∷ z ∷ fs
+
+  begun-is : (n s : ℕ) → begunWith n s all ≡ start n s (entryIn x .cut) (entryIn y .cut) (entryIn z .cut)
+  unfolding begunWith
+  begun-is n s =
+      let a = joined x 2 1 (t .first) in
+      let b = joined y 3 1 (t .second) in
+      let c = joined z 3 2 (t .third) in
+      rw (ne-eqb (laterIn x) 1 (omega arith), eq-eqb (laterIn x) 2 (a .0), t .one, eq-eqb (laterIn y) 3 (b .0), eq-eqb (laterIn z) 3 (c .0))
+
+  behind-is : behindStart all ≡ fs
+  unfolding behindStart
+  behind-is =
+      let a = joined x 2 1 (t .first) in
+      let b = joined y 3 1 (t .second) in
+      let c = joined z 3 2 (t .third) in
+      rw (ne-eqb (laterIn x) 1 (omega arith), eq-eqb (laterIn x) 2 (a .0), t .one, eq-eqb (laterIn y) 3 (b .0), eq-eqb (laterIn z) 3 (c .0), none-next 3 fs (t .two) .1)
 
 -- ---- a file that passes
 
@@ -143,8 +138,8 @@ file-passes f h =
     let t = head-tells f (a .0) in
     let all : linesOf f ≡ x ∷ y ∷ z ∷ fs = three-lines f (lineCount n) (linesFrom n) (omega (arith, t .1)) in
     let g = start-tells end x y z fs (sym (ap (startTests end) all) ∙ b .1) in
-    let begun : begunWith n s (linesOf f) ≡ begunIn f = ap (begunWith n s) all ∙ begun-is end x y z fs (g .first) (g .one) (g .second) (g .third) n s in
-    let rest : behindStart (linesOf f) ≡ fs = ap behindStart all ∙ behind-is end x y z fs (g .first) (g .one) (g .second) (g .third) (g .two) in
+    let begun : begunWith n s (linesOf f) ≡ begunIn f = ap (begunWith n s) all ∙ begun-is g n s in
+    let rest : behindStart (linesOf f) ≡ fs = ap behindStart all ∙ behind-is g in
     record {
       low = t .1;
       high = t .2;

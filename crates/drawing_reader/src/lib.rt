@@ -1,168 +1,17 @@
 // A drawing file's records, read into the arrays of a drawing. Comparing its bytes with the drawing's, 11, is left to the caller.
+use drawing_judging::judge_file;
+use line_records::entry_at;
+use line_records::take_group;
 use links::Added;
 use links::Counts;
 use rules::Answer;
-use rules::Entry;
-use rules::Refusal;
 use words::broad;
 use words::narrow;
 use words::word_at;
 ghost use mathlib.Core.Path.{_≡_};
-ghost use Prim.Native.Nat.{_+_, _*_, _<_, _≤_};
-ghost use lib.ListN.{length};
-ghost use Rattle.rules.specs.Basics.{between};
-ghost use Rattle.rules.specs.Refusals.{answer};
-ghost use Rattle.rules.specs.Records.{several};
-ghost use Rattle.rules.specs.DrawingFile.{entryIn};
 ghost use Rattle.links.specs.Arrays.{arraysOf};
-ghost use Rattle.drawing_reader.specs.Marked.{cursorAt, plainShape};
-ghost use Rattle.drawing_reader.specs.Files.{linesAt, linesFrom, headTests, bodyTests};
-ghost use Rattle.drawing_reader.specs.Groups.{lineAt, joins, startTests};
-ghost use Rattle.drawing_reader.specs.Entered.{numberFor};
-ghost use Rattle.drawing_reader.specs.Whole.{fileTests, Passes};
-ghost use Rattle.drawing_reader.specs.Contracted.{Taken, answerAt, Groups, Grouped, AllGrouped, Fresh, LinesRead};
-
-// 1 and 2 on `count` records of a mark and `size` numbers, record by record from `at` on.
-fn marks(f: &[u8], at: usize, mark: u16, size: usize, count: usize) -> Answer
-    requires { ⌜ (at ≤ length (now f)) × (size ≤ 5) ⌝ }
-    ensures { λ r. ⌜ r ≡ answer (several count (plainShape mark size) (cursorAt (now (f .entry)) at)) ⌝ }
-{
-    let bytes = 2 + 2 * size;
-    let mut here = at;
-    let mut left = count;
-    while 0 < left {
-        if f.len() - here < 2 {
-            return Answer::Refused(Refusal::FileEnds, here);
-        }
-        if word_at(f, here) != mark {
-            return Answer::Refused(Refusal::WrongMark, here);
-        }
-        if f.len() - here < bytes {
-            return Answer::Refused(Refusal::FileEnds, here);
-        }
-        here += bytes;
-        left -= 1;
-    }
-    Answer::Accepted
-}
-
-// Whether v lies from low to high.
-fn lies(v: u16, low: u16, high: u16) -> bool
-    ensures { λ r. ⌜ r ≡ between low high v ⌝ }
-{
-    if v < low {
-        return false;
-    }
-    v <= high
-}
-
-// 1, 2, 3 on the header: n from 3 to 1,024, s from 1 to 8.
-fn judge_head(f: &[u8]) -> Answer
-    ensures { λ r. ⌜ r ≡ answer (headTests (now (f .entry))) ⌝ }
-{
-    let head = marks(f, 0, 0x4448, 4, 1);
-    let Answer::Accepted = head else {
-        return head;
-    };
-    if !lies(word_at(f, 2), 3, 1024) {
-        return Answer::Refused(Refusal::OutOfRange, 0);
-    }
-    if !lies(word_at(f, 4), 1, 8) {
-        return Answer::Refused(Refusal::OutOfRange, 0);
-    }
-    Answer::Accepted
-}
-
-// 1 and 2 on the n points, the 3n - 6 lines and the end, then 10.
-fn judge_body(f: &[u8], n: usize) -> Answer
-    requires { ⌜ (10 ≤ length (now f)) × (n ≤ 1024) × (3 ≤ n) ⌝ }
-    ensures { λ r. ⌜ r ≡ answer (bodyTests (now (f .entry)) n) ⌝ }
-{
-    let points = marks(f, 10, 0x504F, 2, n);
-    let Answer::Accepted = points else {
-        return points;
-    };
-    let from = 10 + 6 * n;
-    let lines = marks(f, from, 0x4C4E, 5, 3 * n - 6);
-    let Answer::Accepted = lines else {
-        return lines;
-    };
-    let end = from + 12 * (3 * n - 6);
-    let last = marks(f, end, 0x454E, 0, 1);
-    let Answer::Accepted = last else {
-        return last;
-    };
-    if end + 2 < f.len() {
-        return Answer::Refused(Refusal::ExtraBytes, end + 2);
-    }
-    Answer::Accepted
-}
-
-// Whether the line record at `at` joins these two points.
-fn line_joins(f: &[u8], at: usize, later: u16, earlier: u16) -> bool
-    requires { ⌜ at + 12 ≤ length (now f) ⌝ }
-    ensures { λ r. ⌜ r ≡ joins (lineAt (now (f .entry)) at) later earlier ⌝ }
-{
-    if word_at(f, at + 2) != later {
-        return false;
-    }
-    word_at(f, at + 4) == earlier
-}
-
-// 4 on the `left` lines from `at` on: point 1 has none, point 2 has 2-1, point 3 has 3-1 and 3-2.
-fn judge_start(f: &[u8], at: usize, left: usize) -> Answer
-    requires { ⌜ (3 ≤ left) × (at + 12 * left ≤ length (now f)) ⌝ }
-    ensures { λ r. ⌜ r ≡ answer (startTests (at + 12 * left) (linesAt (now (f .entry)) left at)) ⌝ }
-{
-    if !line_joins(f, at, 2, 1) {
-        return Answer::Refused(Refusal::OtherStart, at);
-    }
-    if word_at(f, at + 14) == 2 {
-        return Answer::Refused(Refusal::OtherStart, at);
-    }
-    if !line_joins(f, at + 12, 3, 1) {
-        return Answer::Refused(Refusal::OtherStart, at + 12);
-    }
-    if !line_joins(f, at + 24, 3, 2) {
-        return Answer::Refused(Refusal::OtherStart, at + 12);
-    }
-    if left == 3 {
-        return Answer::Accepted;
-    }
-    if word_at(f, at + 38) == 3 {
-        return Answer::Refused(Refusal::OtherStart, at + 12);
-    }
-    Answer::Accepted
-}
-
-// The entry of the line record at `at`, as a call takes it. An earlier point that has no such form isn't placed: 0, which isn't placed either.
-fn entry_at(f: &[u8], at: usize) -> u16
-    requires { ⌜ at + 12 ≤ length (now f) ⌝ }
-    ensures { λ r. ⌜ r ≡ numberFor (entryIn (lineAt (now (f .entry)) at)) ⌝ }
-{
-    let point = word_at(f, at + 4);
-    if 32768 <= point {
-        return 0;
-    }
-    let cut = word_at(f, at + 10) != 0;
-    entries::join(Entry { point, cut })
-}
-
-// Takes the group of point p from the `left` lines from `at` on, as entries into e; gives its number of lines.
-fn take_group(f: &[u8], at: usize, left: usize, p: u16, e: &mut [u16]) -> usize
-    requires { ⌜ (at + 12 * left ≤ length (now f)) × (left ≤ length (now e)) ⌝ }
-    ensures { λ r. ⌜ Taken (now (f .entry)) at left p (now (e .exit)) r ⌝ }
-{
-    let mut i = 0;
-    while i < left {
-        if word_at(f, at + 12 * i + 2) != p {
-            return i;
-        }
-        e[i] = entry_at(f, at + 12 * i);
-        i += 1;
-    }
-    i
-}
+ghost use Rattle.drawing_reader.specs.Whole.{Passes};
+ghost use Rattle.drawing_reader.specs.Contracted.{answerAt, Groups, Grouped, AllGrouped, Fresh, LinesRead};
 
 // An answer, with a refusal at this place.
 fn placed_at(a: Answer, place: usize) -> Answer
@@ -277,22 +126,6 @@ fn add_groups(
         answer: Answer::Accepted,
         counts,
     }
-}
-
-// All tests before the groups of points 4 to n: 1, 2, 3 on the header, 1 and 2 on all other records, 10, then 4.
-fn judge_file(f: &[u8]) -> Answer
-    ensures { λ r. ⌜ r ≡ answer (fileTests (now (f .entry))) ⌝ }
-{
-    let head = judge_head(f);
-    let Answer::Accepted = head else {
-        return head;
-    };
-    let n = broad(word_at(f, 2));
-    let body = judge_body(f, n);
-    let Answer::Accepted = body else {
-        return body;
-    };
-    judge_start(f, 10 + 6 * n, 3 * n - 6)
 }
 
 // The drawing of a file whose tests before the groups of points 4 to n have passed.

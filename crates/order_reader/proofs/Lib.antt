@@ -1,6 +1,3 @@
-pub mod Cursors
-pub mod Heads
-pub mod Starts
 pub mod Rests
 pub mod Turns
 pub mod Opens

@@ -16,12 +16,13 @@ use Rattle.links.specs.Opening.{openArrays, openCounts}
 use Rattle.promise.specs.Bounds.{standing-start}
 use Rattle.stored.specs.Opened.{sized-open, stores-open}
 use Rattle.stored.specs.Adding.{Holds}
-use Rattle.order_reader.specs.declared.Start.{Start}
-use Rattle.order_reader.specs.declared.Start.the-variants as start
-use Rattle.order_reader.specs.declared.Head.{Head}
-use Rattle.order_reader.specs.declared.Head.the-variants as head
-use Rattle.order_reader.specs.Reading.{cursor, HeadRead}
-use Rattle.order_reader.specs.Starting.{pointsFrom, Begun, StartRead}
+use Rattle.order_start.specs.declared.Start.{Start}
+use Rattle.order_start.specs.declared.Start.the-variants as start
+use Rattle.order_start.specs.declared.Head.{Head}
+use Rattle.order_start.specs.declared.Head.the-variants as head
+use Rattle.records.specs.Cursors.{cursor}
+use Rattle.order_start.specs.Heading.{HeadRead}
+use Rattle.order_start.specs.Starting.{pointsFrom, Begun, StartRead}
 use Rattle.order_reader.specs.Points.{Going, Gave, RestRead, Blank, Headed}
 use Rattle.order_reader.proofs.Turns.{gave-refused}
 

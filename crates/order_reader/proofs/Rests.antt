@@ -17,9 +17,10 @@ use Rattle.links.specs.declared.Added.{Added}
 use Rattle.links.specs.Arrays.{Arrays}
 use Rattle.stored.specs.Adding.{Holds, called}
 use Rattle.adding.specs.Calls.{Answered}
-use Rattle.order_reader.specs.Reading.{cursor, Got}
+use Rattle.records.specs.Cursors.{cursor}
+use Rattle.records.specs.Reading.{Got}
 use Rattle.order_reader.specs.Points.{Went}
-use Rattle.order_reader.proofs.Cursors.{answer-refused}
+use Rattle.records.specs.Results.{answer-refused}
 
 -- the record is refused
 pub point-bad : (f : List ℕ) (at : ℕ) (r : Refusal) (p : ℕ) → readRecord pointEntries (cursor f at) ≡ refused r p → (d : Drawing) (k : ℕ) → readRest (suc k) d (cursor f at) ≡ refused r p

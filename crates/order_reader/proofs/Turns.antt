@@ -18,7 +18,7 @@ use Rattle.stored.specs.Adding.{Holds}
 use Rattle.adding.specs.Calls.{Ready}
 use Rattle.order_reader.specs.declared.Step.{Step}
 use Rattle.order_reader.specs.declared.Step.the-variants as step
-use Rattle.order_reader.specs.Reading.{cursor}
+use Rattle.records.specs.Cursors.{cursor}
 use Rattle.order_reader.specs.Points.{Going, PointRead, Gave, RestRead}
 
 -- a refusal gives nothing but its answer

@@ -14,7 +14,7 @@ use Rattle.adding.specs.Calls.{Ready}
 use Rattle.opening.specs.Zeros.{Zeros}
 use Rattle.order_reader.specs.declared.Step.{Step}
 use Rattle.order_reader.specs.declared.Step.the-variants as step
-use Rattle.order_reader.specs.Reading.{cursor}
+use Rattle.records.specs.Cursors.{cursor}
 
 -- arrays that hold a drawing, an offset of the file, and room for the entries of a record
 pub record Going (f : List ℕ) (at : ℕ) (a : Arrays) (c : Counts) (e : List ℕ) : Type 0 where

@@ -2,7 +2,7 @@
 use mathlib.Core.Path.{sym, _∙_}
 use borrow.Author.Needs.{needs}
 use Rattle.drawing_reader.specs.Whole.{file-passes}
-use Rattle.drawing_reader.proofs.Stages.{accepted}
+use Rattle.records.specs.Results.{accepted}
 use Rattle.drawing_reader.proofs.Reading.{refused-early}
 use Rattle.drawing_reader.proofs.read_lines.Statement.{statement}
 use Rattle.drawing_reader.proofs.read_lines.Tie as tie

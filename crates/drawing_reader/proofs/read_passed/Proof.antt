@@ -5,7 +5,7 @@ use borrow.Author.Needs.{needs}
 use Rattle.links.specs.Arrays.{arraysOf}
 use Rattle.links.specs.Opening.{openCounts}
 use Rattle.stored.specs.Adding.{Holds}
-use Rattle.drawing_reader.specs.Files.{nIn, sIn}
+use Rattle.drawing_judging.specs.Files.{nIn, sIn}
 use Rattle.drawing_reader.specs.Whole.{begunIn}
 use Rattle.drawing_reader.proofs.Reading.{opened-holds, lines-lie, all-read}
 use Rattle.drawing_reader.proofs.read_passed.Statement.{statement}

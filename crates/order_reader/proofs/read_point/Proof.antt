@@ -5,7 +5,7 @@ use mathlib.Core.List.{List}
 use lib.ListN.{length}
 use lib.Seq.{length-take-le}
 use Rattle.links.specs.Arrays.{Arrays, arraysOf}
-use Rattle.order_reader.specs.Reading.{EntriesRead, Got}
+use Rattle.records.specs.Reading.{EntriesRead, Got}
 use Rattle.order_reader.proofs.Rests.{point-bad, stopped, went}
 use borrow.Author.Needs.{needs}
 use Rattle.order_reader.proofs.read_point.Statement.{statement}

@@ -77,7 +77,7 @@ loop-again c =
     turn-next (b .before .loop .inv) (b .loop-test .taken) (after t) (left-in t) (still t) (t .read-point .result) (t .read-point .ensures) _ _ (w .with .given .1)
 
 read-end-requires : tie.Need-read-end-requires Inv-loop μ-loop
-read-end-requires c κs = c .before .loop .inv .within
+read-end-requires c κs = search needs
 
 same-length-2 : tie.Need-same-length-2 Inv-loop μ-loop
 same-length-2 c = let b = c .before .before in b .loop .inv .room ∙ sym (b .before .before .before .pre .room)

@@ -1,0 +1,132 @@
+// The beginning of an order file: the header, the scale, and the records of points 1 to 3.
+use entries::point_of;
+use records::Entries;
+use records::Number;
+use records::lies;
+use records::read_entries;
+use records::read_number;
+use rules::Refusal;
+use words::broad;
+use words::word_at;
+ghost use mathlib.Core.Path.{_≡_};
+ghost use mathlib.Core.List.{[], _∷_};
+ghost use Prim.Native.Nat.{_≤_};
+ghost use lib.ListN.{length};
+ghost use Rattle.rules.specs.Entries.{entryOf};
+ghost use Rattle.links.specs.Judging.{pointIn};
+ghost use Rattle.records.specs.Cursors.{cursor};
+ghost use Rattle.order_start.specs.Heading.{HeadRead, ScaleRead};
+ghost use Rattle.order_start.specs.Starting.{thirdFrom, secondFrom, pointsFrom, StartRead};
+
+// The header and the scale: n, s and the offset behind them.
+pub enum Head {
+    Given { n: usize, s: usize, at: usize },
+    Refused(Refusal, usize),
+}
+
+// The records of points 1 to 3: the entries of lines 1-2, 3-1 and 3-2, and the offset behind them.
+pub enum Start {
+    Given { a: u16, b: u16, c: u16, at: usize },
+    Refused(Refusal, usize),
+}
+
+// The scale, where there is one, behind the header of a drawing with n points.
+fn read_scale(f: &[u8], n: usize) -> Head
+    requires { ⌜ 4 ≤ length (now f) ⌝ }
+    ensures { λ r. ⌜ ScaleRead (now (f .entry)) n r ⌝ }
+{
+    if f.len() < 6 {
+        return Head::Given { n, s: 1, at: 4 };
+    }
+    if word_at(f, 4) != 0x5343 {
+        return Head::Given { n, s: 1, at: 4 };
+    }
+    match read_number(f, 4, 0x5343) {
+        Number::Refused(r, p) => Head::Refused(r, p),
+        Number::Given(s) => {
+            if !lies(s, 2, 8) {
+                return Head::Refused(Refusal::OutOfRange, 4);
+            }
+            Head::Given {
+                n,
+                s: broad(s),
+                at: 8,
+            }
+        }
+    }
+}
+
+// The header and the scale: n from 3 to 1,024 and s from 2 to 8, else 3.
+pub fn read_head(f: &[u8]) -> Head
+    ensures { λ r. ⌜ HeadRead (now (f .entry)) r ⌝ }
+{
+    match read_number(f, 0, 0x4844) {
+        Number::Refused(r, p) => Head::Refused(r, p),
+        Number::Given(n) => {
+            if !lies(n, 3, 1024) {
+                return Head::Refused(Refusal::OutOfRange, 0);
+            }
+            read_scale(f, broad(n))
+        }
+    }
+}
+
+// Point 3's record, whose entries are points 1 and 2, else 4; a is the entry of point 2.
+fn read_third(f: &[u8], at: usize, e: &mut [u16], a: u16) -> Start
+    requires { ⌜ (at ≤ length (now f)) × (length (now e) ≡ 65536) × (pointIn a ≡ 1) ⌝ }
+    ensures { λ r. ⌜ StartRead (now (f .entry)) (thirdFrom (entryOf a ∷ []) (cursor (now (f .entry)) at)) r ⌝ }
+{
+    match read_entries(f, at, e) {
+        Entries::Refused(r, p) => Start::Refused(r, p),
+        Entries::Given { count, next } => {
+            if count != 2 {
+                return Start::Refused(Refusal::OtherStart, at);
+            }
+            let b = e[0];
+            let c = e[1];
+            if point_of(b) != 1 {
+                return Start::Refused(Refusal::OtherStart, at);
+            }
+            if point_of(c) != 2 {
+                return Start::Refused(Refusal::OtherStart, at);
+            }
+            Start::Given { a, b, c, at: next }
+        }
+    }
+}
+
+// Point 2's record, whose entry is point 1, else 4; then point 3's.
+fn read_second(f: &[u8], at: usize, e: &mut [u16]) -> Start
+    requires { ⌜ (at ≤ length (now f)) × (length (now e) ≡ 65536) ⌝ }
+    ensures { λ r. ⌜ StartRead (now (f .entry)) (secondFrom (cursor (now (f .entry)) at)) r ⌝ }
+{
+    match read_entries(f, at, e) {
+        Entries::Refused(r, p) => Start::Refused(r, p),
+        Entries::Given { count, next } => {
+            if count != 1 {
+                return Start::Refused(Refusal::OtherStart, at);
+            }
+            let a = e[0];
+            if point_of(a) != 1 {
+                return Start::Refused(Refusal::OtherStart, at);
+            }
+            read_third(f, next, e, a)
+        }
+    }
+}
+
+// Point 1's record, without an entry, else 4; then those of points 2 and 3.
+pub fn read_first(f: &[u8], at: usize, e: &mut [u16]) -> Start
+    requires { ⌜ (at ≤ length (now f)) × (length (now e) ≡ 65536) ⌝ }
+    ensures { λ r. ⌜ StartRead (now (f .entry)) (pointsFrom (cursor (now (f .entry)) at)) r ⌝ }
+{
+    match read_entries(f, at, e) {
+        Entries::Refused(r, p) => Start::Refused(r, p),
+        Entries::Given { count, next } => {
+            if count != 0 {
+                return Start::Refused(Refusal::OtherStart, at);
+            }
+            read_second(f, next, e)
+        }
+    }
+}
