@@ -155,20 +155,33 @@ impl Drawing {
     }
 
     /// "To move a boundary point is to move all it owns, and what those own", for the boundary
-    /// points from the given index up to wm. An owner is later than what it owns, so the latest
-    /// point is decided first.
+    /// points from the given index up to wm.
     fn move_right(&mut self, from: usize, by: i64) {
-        let mut moves = vec![false; self.points.len()];
-        for &point in &self.boundary[from..] {
-            moves[usize::from(point) - 1] = true;
+        let mut moves = vec![None; self.points.len()];
+        for (index, &point) in self.boundary.iter().enumerate() {
+            moves[usize::from(point) - 1] = Some(index >= from);
         }
-        for (index, point) in self.points.iter_mut().enumerate().rev() {
-            if let Some(owner) = point.owner {
-                moves[index] = moves[usize::from(owner) - 1];
-            }
-            if moves[index] {
+        for point in 1..=self.k() {
+            self.climb(point, &mut moves);
+        }
+        for (point, moves) in self.points.iter_mut().zip(moves) {
+            if moves == Some(true) {
                 point.place.x += by;
             }
+        }
+    }
+
+    /// Climbs from a point to its owner, that one's owner and so on, up to one that is decided, and
+    /// decides all of them as that one is.
+    fn climb(&self, point: u16, moves: &mut [Option<bool>]) {
+        let mut path = Vec::new();
+        let mut top = point;
+        while moves[usize::from(top) - 1].is_none() {
+            path.push(top);
+            top = self.point(top).owner.expect("a covered point is owned");
+        }
+        for point in path {
+            moves[usize::from(point) - 1] = moves[usize::from(top) - 1];
         }
     }
 
