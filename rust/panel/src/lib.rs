@@ -48,14 +48,12 @@
 //! ```
 
 mod calls;
-mod calls_move;
 mod files;
 mod moves;
 pub mod raw;
 mod refusal;
 
 pub use calls::{calls, calls_in_words, Called};
-pub use calls_move::calls_move_at;
 pub use files::{draw, undraw};
-pub use moves::{move_at, moves, Move, Moves, Tool};
+pub use moves::{calls_move_at, move_at, moves, Move, Moves, Tool};
 pub use refusal::Refusal;

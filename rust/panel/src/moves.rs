@@ -1,6 +1,6 @@
 //! Cutter moves.
 
-use crate::raw::{panel_move, Words};
+use crate::raw::{panel_calls_move, panel_move, Words};
 use crate::refusal::{given, Refusal};
 
 /// Document 01: "a tool is three whole numbers of eighths of a millimetre, pitch 1 to 80, depth 1 to
@@ -26,9 +26,7 @@ pub enum Move {
 }
 
 /// The move that a function of the library gives by its kind and numbers, unless it refuses.
-pub(crate) fn given_move(
-    call: impl FnOnce(&mut [f32; 2], &mut Words) -> u64,
-) -> Result<Move, Refusal> {
+fn given_move(call: impl FnOnce(&mut [f32; 2], &mut Words) -> u64) -> Result<Move, Refusal> {
     let mut at = [0.0; 2];
     let kind = given(|refusal| call(&mut at, refusal))?;
     let [x, y] = at;
@@ -53,6 +51,34 @@ pub fn move_at(order: &[u8], tool: Tool, number: usize) -> Result<Move, Refusal>
     // SAFETY: pointer and length are those of a borrowed slice.
     given_move(|at, refusal| unsafe {
         panel_move(from, length, pitch, depth, clearance, number, at, refusal)
+    })
+}
+
+/// A move, by number from 0, of the drawing that a list of calls made; calls and answers in words as
+/// in [`calls_in_words`](crate::calls_in_words). Refused are 3 and 24 as there, then 12 for the tool,
+/// 22 while points are missing, 23 if there is no such move.
+pub fn calls_move_at(
+    n: usize,
+    calls: &[u16],
+    answers: &mut [u16],
+    tool: Tool,
+    number: usize,
+) -> Result<Move, Refusal> {
+    // SAFETY: pointers and lengths are those of borrowed slices.
+    given_move(|at, refusal| unsafe {
+        panel_calls_move(
+            n,
+            calls.as_ptr(),
+            calls.len(),
+            answers.as_mut_ptr(),
+            answers.len(),
+            tool.pitch,
+            tool.depth,
+            tool.clearance,
+            number,
+            at,
+            refusal,
+        )
     })
 }
 

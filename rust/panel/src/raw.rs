@@ -48,4 +48,20 @@ extern "C" {
         at: *mut [f32; 2],
         refusal: *mut Words,
     ) -> u64;
+
+    /// The same of the drawing that a list of calls made, with calls and answers as in
+    /// [`panel_calls`].
+    pub fn panel_calls_move(
+        n: usize,
+        calls: *const u16,
+        calls_len: usize,
+        answers: *mut u16,
+        answers_len: usize,
+        pitch: f32,
+        depth: f32,
+        clearance: f32,
+        number: usize,
+        at: *mut [f32; 2],
+        refusal: *mut Words,
+    ) -> u64;
 }
