@@ -89,7 +89,7 @@ pub fn settle(
 
 // Left port j of a point at (x, y) with dl left ports.
 fn left_port(x: u16, y: u16, dl: u16, j: u16) -> Place
-    requires { ⌜ (dl + 1 ≤ x) × (y + j < 65536) ⌝ }
+    requires { ⌜ (j ≤ dl) × (dl + 1 ≤ x) × (y + j < 65536) ⌝ }
     ensures { λ r. ⌜ r ≡ at (x - (dl + 1)) (y + j) ⌝ }
 {
     Place {
@@ -100,7 +100,7 @@ fn left_port(x: u16, y: u16, dl: u16, j: u16) -> Place
 
 // Right port j of a point at (x, y) with dr right ports.
 fn right_port(x: u16, y: u16, dr: u16, j: u16) -> Place
-    requires { ⌜ (x + dr + 1 < 65536) × (y + j < 65536) ⌝ }
+    requires { ⌜ (j ≤ dr) × (x + dr + 1 < 65536) × (y + j < 65536) ⌝ }
     ensures { λ r. ⌜ r ≡ at (x + dr + 1) (y + j) ⌝ }
 {
     Place {
