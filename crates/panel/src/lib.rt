@@ -277,11 +277,11 @@ pub fn order_file(d: Drawing, out: &mut [u8]) -> Written
     requires { ⌜ Came d ⌝ }
     ensures { λ r. ⌜ ((n : ℕ) (calls : List (List ℕ)) → Drew n calls d → Wrote (now (out .entry)) (wholeOrder (drawn n calls)) (now (out .exit)) r) ⌝ }
 {
-    let c = d.counts;
-    if c.k < c.n {
+    let numbers = d.counts;
+    if numbers.k < numbers.n {
         return Written::Refused(Refusal::Unfinished, 0);
     }
     let words = d.words;
     let later = d.later;
-    put_order(out, &words, &later, c)
+    put_order(out, &words, &later, numbers)
 }

@@ -22,7 +22,7 @@ linked : (d : tie.After-enum-told3) →
 linked d = sym (d .before .before .judge-run .ensures) ∙ d .enum-told3 .given .1
 
 returns : tie.Need-returns
-returns c = finished _ _ _ _ _ _ (search needs)
+returns c = finished _ _ _ _ _ _ (c .if1 .taken)
 
 returns-2 : tie.Need-returns-2
 returns-2 c = few _ _ _ _ _ _ (search needs) (search needs)
