@@ -1,5 +1,6 @@
 -- `judging::judge` meets its contract: each return gives the answer of the first test that fails.
 use mathlib.Core.Path.{_≡_, sym, _∙_}
+use native.Mathlib.Omega.{arith}
 use borrow.Author.Needs.{needs}
 use Rattle.rules.specs.declared.Answer.the-variants.{Accepted}
 use Rattle.rules.specs.Refusals.{answer}
@@ -22,7 +23,7 @@ linked : (d : tie.After-enum-told3) →
 linked d = sym (d .before .before .judge-run .ensures) ∙ d .enum-told3 .given .1
 
 returns : tie.Need-returns
-returns c = finished _ _ _ _ _ _ (c .if1 .taken)
+returns c = finished _ _ _ _ _ _ (omega (arith, c .if1 .taken))
 
 returns-2 : tie.Need-returns-2
 returns-2 c = few _ _ _ _ _ _ (search needs) (search needs)
