@@ -16,10 +16,11 @@ use Rattle.stored.specs.Opened.{sized-open, stores-open}
 use Rattle.stored.specs.Adding.{Holds}
 use Rattle.drawing.specs.declared.Drawing.{Drawing}
 use Rattle.drawing.specs.declared.Done.{Done}
+use Rattle.drawing.specs.Opens.{blank}
 use Rattle.drawing.specs.View.{arraysIn}
 use Rattle.calls.specs.Lists.{callsIn}
 use Rattle.calls.specs.Turns.{Begun, Ended, Runs}
-use Rattle.calls.specs.Ran.{blank, Refuses, Accepts, Ran}
+use Rattle.calls.specs.Ran.{Refuses, Accepts, Ran}
 
 -- The arrays as opened hold the drawing as opened.
 pub begun : {n : ℕ} {ws out : List ℕ} (a : Arrays) → Runs n ws out → a ≡ openArrays 1 1 2 → Begun n ws out a (openCounts n 1)

@@ -60,7 +60,7 @@ pub enum CutSeen {
 }
 
 // A drawing of zeros, which goes with a refusal to open.
-fn no_drawing() -> Drawing
+pub fn no_drawing() -> Drawing
     ensures { λ r. ⌜ r ≡ blank ⌝ }
 {
     let points = [0u16; 1024];

@@ -12,25 +12,12 @@ use Rattle.rules.specs.Points.{Drawing as Plan}
 use Rattle.rules.specs.OrderFile.{readOrder}
 use Rattle.rules.specs.DrawingFile.{drawingBytes, writeDrawing, drawFile}
 use Rattle.links.specs.declared.Added.{Added}
+use Rattle.links.specs.Answers.{accepted, refusing}
 use Rattle.links.specs.Arrays.{Arrays}
 use Rattle.exchange.specs.WholeRead.{whole-read}
 use Rattle.exchange.specs.Demand2.{drawn-as}
 use Rattle.order_reader.specs.Points.{Gave}
 use Rattle.panel.specs.Outputs.{Ended, Wrote, turned}
-
--- an accepted answer has a value
-pub record Value {A : Type 0} (o : Result A) : Type 0 where
-  pub value : A
-  pub is : o ≡ good value
-
-pub accepted : {A : Type 0} (o : Result A) → answer o ≡ Accepted → Value o
-accepted (good a) h = record { value = a; is = refl }
-accepted (refused r p) h = absurd (let z : _≡_ {A = ℕ} 0 1 = cc in omega arith)
-
--- a refused one is that refusal
-pub refusing : {A : Type 0} (o : Result A) (r : Refusal) (p : ℕ) → answer o ≡ Refused r p → o ≡ refused r p
-refusing (good a) r p h = absurd (let z : _≡_ {A = ℕ} 0 1 = cc in omega arith)
-refusing (refused s q) r p h = cc
 
 module _ (f : List ℕ) {a : Arrays} {v : Added} (g : Gave (readOrder f) a v) where
   -- an accepted order file: the arrays hold a whole drawing

@@ -4,8 +4,9 @@ use native.Mathlib.Omega.{arith}
 use borrow.Author.Needs.{needs}
 use Rattle.rules.specs.declared.Answer.the-variants.{Accepted}
 use Rattle.rules.specs.Refusals.{answer}
+use Rattle.links.specs.Answers.{accepted}
 use Rattle.links.specs.Judging.{entriesPass, runPasses}
-use Rattle.judging.specs.Passed.{accepted, entries-within, within-up}
+use Rattle.judging.specs.Passed.{entries-within, within-up}
 use Rattle.judging.proofs.Stages.{finished, few, at-entries, at-run, not-last, not-whole, whole}
 use Rattle.judging.proofs.judge.Statement.{statement}
 use Rattle.judging.proofs.judge.Tie as tie
@@ -46,7 +47,7 @@ judge-run-requires : tie.Need-judge-run-requires
 judge-run-requires c κs =
     let z = c .before .before .before .before .before .before in
     let a = z .args in
-    (z .pre .1, within-up (a .c .k) 1024 (a .e .now) (z .pre .2) (entries-within (a .owner .now) (a .c .k) 0 (a .e .now) (accepted _ (placed c))))
+    (z .pre .1, within-up (a .c .k) 1024 (a .e .now) (z .pre .2) (entries-within (a .owner .now) (a .c .k) 0 (a .e .now) (accepted _ (placed c) .is)))
 
 enum-told-3 : tie.Need-enum-told-3
 enum-told-3 c = search needs
