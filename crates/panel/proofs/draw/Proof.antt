@@ -1,5 +1,7 @@
 -- `panel::draw` meets its contract: what the order reader gave is a whole drawing, which is then written, or a refusal.
+use Prim.Native.Nat.{ℕ}
 use mathlib.Core.Path.{refl}
+use mathlib.Core.List.{List}
 use borrow.Author.Needs.{needs}
 use Rattle.panel.specs.Reading.{ended, drawn, undrawn}
 use Rattle.panel.specs.Outputs.{turned}
@@ -19,6 +21,10 @@ enum-known-answer c = search needs
 enum-told : tie.Need-enum-told
 enum-told c = search needs
 
+-- the file that is drawn
+abbrev file : tie.After-read-order → List ℕ
+file c = c .before .before .before .before .before .before .before .before .before .before .before .before .before .before .args .order .now
+
 -- where the answer was told
 told : tie.After-bends2 → tie.After-enum-told
 told c = c .before .before .before .before .before .before .before .before .before .before .before
@@ -31,7 +37,8 @@ put-drawing-requires c κs =
 
 returns : tie.Need-returns
 returns c =
-    rw (undrawn _ (c .before .before .before .before .before .read-order .ensures) _ _ (c .before .answer .given .1)) (turned _ _ _)
+    let r = c .before .before .before .before .before in
+    rw (undrawn (file r) (r .read-order .ensures) _ _ (c .before .answer .given .1)) (turned _ _ _)
 
 same-length : tie.Need-same-length
 same-length c = search needs
