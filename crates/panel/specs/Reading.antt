@@ -17,6 +17,7 @@ use Rattle.links.specs.Arrays.{Arrays}
 use Rattle.exchange.specs.WholeRead.{whole-read}
 use Rattle.exchange.specs.Demand2.{drawn-as}
 use Rattle.order_reader.specs.Points.{Gave}
+use Rattle.panel.specs.declared.Written.the-variants as Written
 use Rattle.panel.specs.Outputs.{Ended, Wrote, turned}
 
 module _ (f : List ℕ) {a : Arrays} {v : Added} (g : Gave (readOrder f) a v) where
@@ -33,6 +34,6 @@ module _ (f : List ℕ) {a : Arrays} {v : Added} (g : Gave (readOrder f) a v) wh
       let o = accepted (readOrder f) (cc (g .answers)) in
       drawn-as f (o .value) (whole-read f (o .value) (o .is)) (o .is)
 
-  -- a refused one is refused in drawing
-  pub undrawn : (r : Refusal) (p : ℕ) → v .answer ≡ Refused r p → drawFile f ≡ refused r p
-  undrawn r p h = let e = refusing (readOrder f) r p (cc (g .answers)) in rw e
+  -- a refused one is refused in drawing, and nothing is written
+  pub undrawn : (before : List ℕ) (r : Refusal) (p : ℕ) → v .answer ≡ Refused r p → Wrote before (drawFile f) before (Written.Refused r p)
+  undrawn before r p h = let e = refusing (readOrder f) r p (cc (g .answers)) in rw e (turned before r p)

@@ -1,10 +1,7 @@
 -- `panel::draw` meets its contract: what the order reader gave is a whole drawing, which is then written, or a refusal.
-use Prim.Native.Nat.{ℕ}
 use mathlib.Core.Path.{refl}
-use mathlib.Core.List.{List}
 use borrow.Author.Needs.{needs}
 use Rattle.panel.specs.Reading.{ended, drawn, undrawn}
-use Rattle.panel.specs.Outputs.{turned}
 use Rattle.panel.proofs.draw.Statement.{statement}
 use Rattle.panel.proofs.draw.Tie as tie
 
@@ -21,10 +18,6 @@ enum-known-answer c = search needs
 enum-told : tie.Need-enum-told
 enum-told c = search needs
 
--- the file that is drawn
-abbrev file : tie.After-read-order → List ℕ
-file c = c .before .before .before .before .before .before .before .before .before .before .before .before .before .before .args .order .now
-
 -- where the answer was told
 told : tie.After-bends2 → tie.After-enum-told
 told c = c .before .before .before .before .before .before .before .before .before .before .before
@@ -36,9 +29,7 @@ put-drawing-requires c κs =
     ended _ (t .before .before .before .before .read-order .ensures) (t .enum-told .given .1)
 
 returns : tie.Need-returns
-returns c =
-    let r = c .before .before .before .before .before in
-    rw (undrawn (file r) (r .read-order .ensures) _ _ (c .before .answer .given .1)) (turned _ _ _)
+returns c = undrawn _ (c .before .before .before .before .before .read-order .ensures) _ _ _ (c .before .answer .given .1)
 
 same-length : tie.Need-same-length
 same-length c = search needs
