@@ -7,7 +7,6 @@ use native.Mathlib.Omega.{arith}
 use lib.ListN.{length}
 use Rattle.rules.specs.declared.Answer.the-variants.{Accepted, Refused}
 use Rattle.rules.specs.declared.Refusal.the-variants.{OutOfRange, OutputShort}
-use Rattle.rules.specs.Points.{opening}
 use Rattle.rules.specs.Calls.{drawn}
 use Rattle.links.specs.Arrays.{Arrays}
 use Rattle.links.specs.Opening.{openArrays, openCounts}
@@ -15,13 +14,13 @@ use Rattle.promise.specs.Bounds.{standing-start}
 use Rattle.promise.specs.Theorem.{demand-3}
 use Rattle.exchange.specs.Reaching.{reached-drawn}
 use Rattle.stored.specs.Opened.{sized-open, stores-open}
-use Rattle.stored.specs.Adding.{Holds}
 use Rattle.drawing.specs.declared.Drawing.{Drawing}
 use Rattle.drawing.specs.declared.Done.{Done}
+use Rattle.drawing.specs.Opens.{blank}
 use Rattle.drawing.specs.View.{arraysIn}
 use Rattle.calls.specs.Lists.{callsIn}
 use Rattle.calls.specs.Turns.{Begun, Ended, Runs}
-use Rattle.calls.specs.Ran.{blank, Refuses, Accepts, Ran}
+use Rattle.calls.specs.Ran.{Refuses, Ran}
 
 -- The arrays as opened hold the drawing as opened.
 pub begun : {n : ℕ} {ws out : List ℕ} (a : Arrays) → Runs n ws out → a ≡ openArrays 1 1 2 → Begun n ws out a (openCounts n 1)

@@ -1,7 +1,7 @@
 -- A list of calls as 16-bit words, and the answers as such words.
 use Prim.Native.Nat.{ℕ, zero, suc, _+_}
 use mathlib.Core.List.{List, [], _∷_, _++_}
-use lib.ListN.{length, getD, take, drop, set}
+use lib.ListN.{length, take, drop, set}
 use Rattle.rules.specs.declared.Answer.{Answer}
 use Rattle.rules.specs.declared.Answer.the-variants.{Accepted, Refused}
 use Rattle.rules.specs.Refusals.{number}

@@ -7,29 +7,11 @@ use Rattle.rules.specs.declared.Answer.the-variants.{Accepted, Refused}
 use Rattle.rules.specs.declared.Refusal.{Refusal}
 use Rattle.rules.specs.declared.Refusal.the-variants.{OutOfRange, OutputShort}
 use Rattle.rules.specs.Calls.{drawn, said}
-use Rattle.links.specs.Opening.{noPoints, noLines}
 use Rattle.promise.specs.Promise.{Promise}
-use Rattle.drawing.specs.declared.Drawing.{Drawing}
 use Rattle.drawing.specs.declared.Done.{Done}
+use Rattle.drawing.specs.Opens.{blank}
 use Rattle.drawing.specs.View.{Is, Came}
 use Rattle.calls.specs.Lists.{callsIn, wordsOf}
-
--- no drawing: every number is 0
-abbrev pub blank : Drawing
-blank =
-    record {
-      counts = record { n = 0; s = 0; k = 0; m = 0; lines = 0 };
-      next = noPoints;
-      gap = noPoints;
-      owner = noPoints;
-      ys = noPoints;
-      dls = noPoints;
-      drs = noPoints;
-      hs = noPoints;
-      words = noLines;
-      later = noLines;
-      bends = noLines;
-    }
 
 -- refused: no word of the buffer changes
 pub record Refuses (why : Refusal) (before after : List ℕ) (r : Done) : Type 0 where

@@ -10,9 +10,10 @@ ghost use lib.ListN.{length, set};
 ghost use Rattle.links.specs.Arrays.{arraysOf};
 ghost use Rattle.opening.specs.Zeros.{Zeros};
 ghost use Rattle.drawing.specs.View.{arraysIn};
+ghost use Rattle.drawing.specs.Opens.{blank};
 ghost use Rattle.calls.specs.Lists.{callsIn, placeIn, withAnswer};
 ghost use Rattle.calls.specs.Turns.{endOf, Callable, Made, Begun, Ended, Runs};
-ghost use Rattle.calls.specs.Ran.{blank, Ran};
+ghost use Rattle.calls.specs.Ran.{Ran};
 
 // Where the call whose count stands at `at` ends: behind its entries, or where the words end.
 fn end_of(calls: &[u16], at: usize) -> usize
@@ -278,31 +279,9 @@ fn draw_calls(n: usize, calls: &[u16], answers: &mut [u16]) -> Drawing
 fn refuse(why: Refusal) -> Done
     ensures { λ r. ⌜ (r .answer ≡ Answer.Refused why 0) × (r .drawing ≡ blank) ⌝ }
 {
-    let counts = Counts {
-        n: 0,
-        s: 0,
-        k: 0,
-        m: 0,
-        lines: 0,
-    };
-    let zeros = [0u16; 1024];
-    let none = [0u16; 3072];
-    let drawing = Drawing {
-        counts,
-        next: zeros,
-        gap: zeros,
-        owner: zeros,
-        ys: zeros,
-        dls: zeros,
-        drs: zeros,
-        hs: zeros,
-        words: none,
-        later: none,
-        bends: none,
-    };
     Done {
         answer: Answer::Refused(why, 0),
-        drawing,
+        drawing: drawing::no_drawing(),
     }
 }
 

@@ -1,7 +1,6 @@
 -- What the program's drawing is: the arrays and numbers of a drawing of the rules.
 -- Here `Plan` is the drawing as the rules see it, `Drawing` the program's.
-use Rattle.rules.specs.declared.Answer.{Answer}
-use Rattle.rules.specs.declared.Answer.the-variants.{Accepted, Refused}
+use Rattle.rules.specs.declared.Answer.the-variants.{Refused}
 use Rattle.rules.specs.declared.Place.{Place}
 use Rattle.rules.specs.Refusals.{Result, good, refused}
 use Rattle.rules.specs.Points.{Drawing as Plan}

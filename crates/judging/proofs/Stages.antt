@@ -10,8 +10,8 @@ use Rattle.rules.specs.declared.Refusal.{Refusal}
 use Rattle.rules.specs.declared.Refusal.the-variants.{Finished, FewEntries, NotWhole}
 use Rattle.rules.specs.declared.Answer.the-variants.{Accepted, Refused}
 use Rattle.rules.specs.Refusals.{Result, good, refused, _>>_, refuseIf, answer}
+use Rattle.links.specs.Answers.{accepted}
 use Rattle.links.specs.Judging.{entriesPass, runPasses, passes}
-use Rattle.judging.specs.Passed.{accepted}
 
 -- a refusal is the answer, whatever comes behind it
 stops : (q r : Result (Unit {0})) (f : Refusal) (p : ℕ) → answer q ≡ Refused f p → answer q ≡ answer (q >> r)
@@ -39,12 +39,12 @@ module _ (owner next : List ℕ) (n k m : ℕ) (es : List ℕ) where
       -- 8
       pub at-run : (f : Refusal) (p : ℕ) → answer (runPasses next es) ≡ Refused f p → answer (runPasses next es) ≡ answer (passes owner next n k m es)
       unfolding passes
-      at-run f p h = rw (lt-leb n k room, le-ltb (length es) 2 enough, accepted (entriesPass owner k 0 es) placed) (stops (runPasses next es) _ f p h)
+      at-run f p h = rw (lt-leb n k room, le-ltb (length es) 2 enough, accepted (entriesPass owner k 0 es) placed .is) (stops (runPasses next es) _ f p h)
 
       module _ (linked : answer (runPasses next es) ≡ Accepted) where
         last-test : answer (passes owner next n k m es) ≡ answer (refuseIf (eqb (k + 1) n && not (eqb (length es) m)) NotWhole 0)
         unfolding passes
-        last-test = rw (lt-leb n k room, le-ltb (length es) 2 enough, accepted (entriesPass owner k 0 es) placed, accepted (runPasses next es) linked)
+        last-test = rw (lt-leb n k room, le-ltb (length es) 2 enough, accepted (entriesPass owner k 0 es) placed .is, accepted (runPasses next es) linked .is)
 
         -- 9 is of point n alone
         pub not-last : (k + 1 ≡ n → ⊥) → Accepted ≡ answer (passes owner next n k m es)

@@ -12,6 +12,7 @@ use Rattle.rules.specs.declared.Refusal.{Refusal}
 use Rattle.rules.specs.declared.Answer.the-variants.{Accepted}
 use Rattle.rules.specs.declared.Refusal.the-variants.{Finished, FewEntries, NotPlaced, Covered}
 use Rattle.rules.specs.Refusals.{Result, good, refused, _>>_, refuseIf, answer}
+use Rattle.links.specs.Answers.{accepted}
 use Rattle.links.specs.Arrays.{atPoint}
 use Rattle.links.specs.Judging.{pointIn, entriesPass, passes}
 use Rattle.links.specs.Placing.{entryPoint}
@@ -22,11 +23,6 @@ pub record Passed (owner next : List ℕ) (n k m : ℕ) (es : List ℕ) : Type 0
   pub within : Within k es
   pub room : k < n
   pub all-good : passes owner next n k m es ≡ good tt
-
--- only what is good is answered by `Accepted`
-pub accepted : (r : Result (Unit {0})) → answer r ≡ Accepted → r ≡ good tt
-accepted (good tt) h = refl
-accepted (refused f p) h = cc
 
 -- a test that was passed is false, and the tests behind it are passed
 pub behind : (b : Bool) (f : Refusal) (p : ℕ) (r : Result (Unit {0})) → (refuseIf b f p >> r) ≡ good tt → (b ≡ false) × (r ≡ good tt)
@@ -72,7 +68,7 @@ within-up k l es h w = record { low = w .low; high = λ i b. le-trans (w .high i
 pub passed : (owner next : List ℕ) (n k m : ℕ) (es : List ℕ) → answer (passes owner next n k m es) ≡ Accepted → Passed owner next n k m es
 unfolding passes
 passed owner next n k m es h =
-    let all = accepted (passes owner next n k m es) h in
+    let all = accepted (passes owner next n k m es) h .is in
     let room = behind (leb n k) Finished 0 _ all in
     let enough = behind (ltb (length es) 2) FewEntries 0 _ (room .1) in
     record {

@@ -3,19 +3,13 @@ use entries::point_of;
 use links::Counts;
 use rules::Answer;
 use rules::Refusal;
+use words::broad;
 ghost use mathlib.Core.Path.{_≡_};
 ghost use Prim.Native.Nat.{_≤_};
 ghost use lib.ListN.{length};
 ghost use Rattle.rules.specs.Refusals.{answer};
 ghost use Rattle.links.specs.Judging.{entriesPass, runPasses, passes};
 ghost use Rattle.links.specs.Runs.{Within};
-
-// A 16-bit number as an index.
-fn broad(x: u16) -> usize
-    ensures { λ r. ⌜ r ≡ x ⌝ }
-{
-    x as usize
-}
 
 // 6 and 7, entry by entry: each point is one of the k placed, and owned by nobody.
 fn judge_entries(e: &[u16], owner: &[u16; 1024], k: usize) -> Answer

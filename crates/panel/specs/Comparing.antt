@@ -1,15 +1,13 @@
 -- The comparison of two files from byte i on.
 use Prim.Native.Nat.{ℕ, _+_, _<_, _≤_}
-use mathlib.Core.Path.{_≡_, refl, sym, _∙_}
-use mathlib.Core.Bool.{not}
+use mathlib.Core.Path.{_≡_}
 use mathlib.Core.List.{List}
 use native.Mathlib.Numerals.{add-one}
 use lib.ListN.{length, getD, drop, drop-of-length-le}
 use lib.Seq.{drop-cons}
-use lib.Dec.{eqb}
 use borrow.Author.Tests.{eq-eqb, ne-eqb}
 use Rattle.rules.specs.declared.Refusal.the-variants.{OtherDrawing}
-use Rattle.rules.specs.Refusals.{Result, good, refused, _>>_, refuseIf}
+use Rattle.rules.specs.Refusals.{Result, good, refused}
 use Rattle.rules.specs.DrawingFile.{compareBytes}
 
 -- the comparison from byte i on

@@ -17,9 +17,9 @@ use Rattle.drawing_writer.specs.Lists.{listsOf}
 use Rattle.drawing_writer.specs.Finished.{Finished, Writable, finished-of}
 use Rattle.exchange.specs.Built.{Whole}
 use Rattle.exchange.specs.DrawingRead.{length-drawing}
-use Rattle.order_writer.specs.Writing.{LinesStored, OrderWritable}
+use Rattle.order_writer.specs.Writing.{LinesStored}
 use Rattle.panel.specs.declared.Written.{Written}
-use Rattle.panel.specs.Outputs.{Ended, Lined, Wrote}
+use Rattle.panel.specs.Outputs.{Ended, Wrote}
 
 -- the length of a whole drawing's file, from the stored numbers
 pub need-is : {d : Plan} {a : Arrays} {c : Counts} → Whole d → Holds d a c → 42 * c .n - 60 ≡ length (drawingBytes d)

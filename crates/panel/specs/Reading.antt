@@ -1,55 +1,29 @@
--- What a reader's answer says of the drawing of the rules.
-use mathlib.Core.Path.{_≡_, refl}
-use mathlib.Core.List.{List}
-use native.Mathlib.Omega.{arith}
+-- What the order reader's answer says of the drawing of the rules, by value.
 use Prim.Native.Nat.{ℕ}
-use Rattle.rules.specs.declared.Answer.{Answer}
+use mathlib.Core.Path.{_≡_}
+use mathlib.Core.List.{List}
 use Rattle.rules.specs.declared.Answer.the-variants.{Accepted, Refused}
 use Rattle.rules.specs.declared.Refusal.{Refusal}
-use Rattle.rules.specs.declared.Refusal.the-variants.{Unfinished}
-use Rattle.rules.specs.Refusals.{Result, good, refused, answer, _>>=_}
+use Rattle.rules.specs.Refusals.{good, answer}
 use Rattle.rules.specs.Points.{Drawing as Plan}
 use Rattle.rules.specs.OrderFile.{readOrder}
-use Rattle.rules.specs.DrawingFile.{drawingBytes, writeDrawing, drawFile}
+use Rattle.rules.specs.DrawingFile.{writeDrawing, drawFile}
 use Rattle.links.specs.declared.Added.{Added}
 use Rattle.links.specs.Arrays.{Arrays}
+use Rattle.links.specs.Answers.{accepted, refusing}
+use Rattle.exchange.specs.Built.{Reached}
 use Rattle.exchange.specs.WholeRead.{whole-read}
-use Rattle.exchange.specs.Demand2.{drawn-as}
 use Rattle.order_reader.specs.Points.{Gave}
 use Rattle.drawing.specs.declared.Drawing.{Drawing}
+use Rattle.drawing.specs.declared.Done.{Done}
 use Rattle.drawing.specs.View.{arraysIn, Is}
-use Rattle.drawing.specs.Opens.{blank, Gives}
-use Rattle.panel.specs.Outputs.{Ended, Wrote, turned}
-
--- an accepted answer has a value
-pub record Value {A : Type 0} (o : Result A) : Type 0 where
-  pub value : A
-  pub is : o ≡ good value
-
-pub accepted : {A : Type 0} (o : Result A) → answer o ≡ Accepted → Value o
-accepted (good a) h = record { value = a; is = refl }
-accepted (refused r p) h = absurd (let z : _≡_ {A = ℕ} 0 1 = cc in omega arith)
-
--- a refused one is that refusal
-pub refusing : {A : Type 0} (o : Result A) (r : Refusal) (p : ℕ) → answer o ≡ Refused r p → o ≡ refused r p
-refusing (good a) r p h = absurd (let z : _≡_ {A = ℕ} 0 1 = cc in omega arith)
-refusing (refused s q) r p h = cc
+use Rattle.drawing.specs.Opens.{blank, Gives, DrawingOf}
+use Rattle.panel.specs.declared.Written.{Written}
+use Rattle.panel.specs.declared.Written.the-variants as Written
+use Rattle.panel.specs.Outputs.{Wrote, turned}
 
 module _ (f : List ℕ) {a : Arrays} {v : Added} (g : Gave (readOrder f) a v) where
-  -- an accepted order file: the arrays hold a whole drawing
-  pub ended : v .answer ≡ Accepted → Ended a (v .counts)
-  ended h =
-      let o = accepted (readOrder f) (cc (g .answers)) in
-      record { d = o .value; whole = whole-read f (o .value) (o .is); holds = g .holds (o .value) (o .is) }
-
-  -- whose drawing is the drawing of the file
-  pub drawn : (e : v .answer ≡ Accepted) → drawFile f ≡ good (drawingBytes (ended e .d))
-  unfolding ended
-  drawn h =
-      let o = accepted (readOrder f) (cc (g .answers)) in
-      drawn-as f (o .value) (whole-read f (o .value) (o .is)) (o .is)
-
-  -- by value: the drawing that the arrays hold,
+  -- An accepted order file gives the drawing that the arrays hold,
   pub given : {d : Drawing} → arraysIn d ≡ a → d .counts ≡ v .counts → v .answer ≡ Accepted → Gives (readOrder f) (record { answer = v .answer; drawing = d })
   given {d} e n h =
       let o = accepted (readOrder f) (cc (g .answers)) in
@@ -57,10 +31,19 @@ module _ (f : List ℕ) {a : Arrays} {v : Added} (g : Gave (readOrder f) a v) wh
       let i : Is (o .value) d = rw (e, n) (g .holds (o .value) (o .is)) in
       record { answer = g .answers; drawing = rw (o .is) (i, record { plan = o .value; reached = w .reached; is = i }) }
 
-  -- or none
+  -- a refused one none.
   pub withheld : {d : Drawing} (r : Refusal) (p : ℕ) → v .answer ≡ Refused r p → d ≡ blank → Gives (readOrder f) (record { answer = v .answer; drawing = d })
   withheld r p h e = let k = refusing (readOrder f) r p (cc (g .answers)) in record { answer = g .answers; drawing = rw k e }
 
-  -- a refused one is refused in drawing
-  pub undrawn : (r : Refusal) (p : ℕ) → v .answer ≡ Refused r p → drawFile f ≡ refused r p
-  undrawn r p h = let e = refusing (readOrder f) r p (cc (g .answers)) in rw e
+module _ (f : List ℕ) {r : Done} (g : Gives (readOrder f) r) where
+  -- Where no drawing is given, nothing is drawn.
+  pub undrawn : (before : List ℕ) (w : Refusal) (p : ℕ) → r .answer ≡ Refused w p → Wrote before (drawFile f) before (Written.Refused w p)
+  undrawn before w p h = let e = refusing (readOrder f) w p (cc (g .answer)) in rw e (turned before w p)
+
+  -- The file of the drawing that is given is the file drawn.
+  pub drawn : {before after : List ℕ} {w : Written} → r .answer ≡ Accepted → ((q : Plan) → Reached q → Is q (r .drawing) → Wrote before (writeDrawing q) after w) →
+      Wrote before (drawFile f) after w
+  drawn h wrote =
+      let o = accepted (readOrder f) (cc (g .answer)) in
+      let d : DrawingOf (good (o .value)) (r .drawing) = rw (o .is) at (g .drawing) in
+      rw (o .is) (wrote (o .value) (whole-read f (o .value) (o .is) .reached) (d .0))

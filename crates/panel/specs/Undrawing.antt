@@ -1,7 +1,7 @@
 -- What the drawing reader's answer, and the comparison behind it, say of the order file that comes back.
-use Prim.Native.Nat.{ℕ, _-_, _*_, _≤_}
+use Prim.Native.Nat.{ℕ, _-_, _*_}
 use mathlib.Core.Path.{_≡_, refl}
-use mathlib.Core.Bool.{true, false, not, _&&_}
+use mathlib.Core.Bool.{not, _&&_}
 use mathlib.Core.List.{List}
 use native.Mathlib.Omega.{arith}
 use lib.ListN.{getD}
@@ -15,7 +15,7 @@ use Rattle.rules.specs.Refusals.{Result, good, refused, answer, _>>=_, _>>_, re
 use Rattle.rules.specs.Points.{Drawing as Plan}
 use Rattle.rules.specs.Records.{several, readRecord, readEnd, fromStart, drawingHead, pointPlace, lineShape}
 use Rattle.rules.specs.OrderFile.{writeOrder}
-use Rattle.rules.specs.DrawingFile.{judgeLines, compareBytes, drawingBytes, readDrawing, orderBack}
+use Rattle.rules.specs.DrawingFile.{judgeLines, compareBytes, drawingBytes, orderBack}
 use Rattle.links.specs.declared.Added.{Added}
 use Rattle.links.specs.Arrays.{Arrays}
 use Rattle.exchange.specs.Built.{Whole}
@@ -27,7 +27,7 @@ use Rattle.exchange.specs.Entries.{whole-so}
 use Rattle.drawing_reader.specs.Judged.{judgeDrawing, reads-so}
 use Rattle.drawing_reader.specs.Contracted.{LinesRead}
 use Rattle.panel.specs.Outputs.{Ended}
-use Rattle.panel.specs.Reading.{accepted, refusing}
+use Rattle.links.specs.Answers.{accepted, refusing}
 
 -- a drawing whose lines passed 4 to 9 is whole
 whole-judged : (f : List ℕ) (d : Plan) → judgeDrawing f ≡ good d → Whole d

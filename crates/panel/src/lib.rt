@@ -69,9 +69,9 @@ fn put_order(out: &mut [u8], words: &[u16; 3072], later: &[u16; 3072], c: Counts
     Written::Bytes(order_writer::write_order(out, words, later, c))
 }
 
-// Draws an order file: its drawing file, or the refusal of document 01.
-pub fn draw(order: &[u8], out: &mut [u8]) -> Written
-    ensures { λ r. ⌜ Wrote (now (out .entry)) (drawFile (now (order .entry))) (now (out .exit)) r ⌝ }
+// The drawing of an order file, by value; with a refusal goes a drawing of zeros.
+pub fn drawing_of(order: &[u8]) -> Done
+    ensures { λ r. ⌜ Gives (readOrder (now (order .entry))) r ⌝ }
 {
     let mut next = [0u16; 1024];
     let mut gap = [0u16; 1024];
@@ -98,24 +98,89 @@ pub fn draw(order: &[u8], out: &mut [u8]) -> Written
         &mut bends,
         &mut entries,
     );
-    let c = read.counts;
+    let counts = read.counts;
     let answer = read.answer;
+    let Answer::Accepted = answer else {
+        return Done {
+            answer,
+            drawing: drawing::no_drawing(),
+        };
+    };
+    let drawing = Drawing {
+        counts,
+        next,
+        gap,
+        owner,
+        ys,
+        dls,
+        drs,
+        hs,
+        words,
+        later,
+        bends,
+    };
+    Done { answer, drawing }
+}
+
+// The drawing file of a drawing: 22 while it is unfinished, 24 where the buffer is short.
+pub fn drawing_file(d: Drawing, out: &mut [u8]) -> Written
+    requires { ⌜ Came d ⌝ }
+    ensures { λ r. ⌜ ((q : Plan) → Reached q → Is q d → Wrote (now (out .entry)) (writeDrawing q) (now (out .exit)) r) ⌝ }
+{
+    let c = d.counts;
+    if c.k < c.n {
+        return Written::Refused(Refusal::Unfinished, 0);
+    }
+    let next = d.next;
+    let gap = d.gap;
+    let owner = d.owner;
+    let ys = d.ys;
+    let dls = d.dls;
+    let drs = d.drs;
+    let hs = d.hs;
+    let words = d.words;
+    let later = d.later;
+    let bends = d.bends;
+    put_drawing(
+        out,
+        &next,
+        &gap,
+        &owner,
+        &ys,
+        &dls,
+        &drs,
+        &hs,
+        &words,
+        &later,
+        &bends,
+        c,
+    )
+}
+
+// Its order file, in the same manner.
+pub fn order_file(d: Drawing, out: &mut [u8]) -> Written
+    requires { ⌜ Came d ⌝ }
+    ensures { λ r. ⌜ ((q : Plan) → Reached q → Is q d → Wrote (now (out .entry)) (wholeOrder q) (now (out .exit)) r) ⌝ }
+{
+    let numbers = d.counts;
+    if numbers.k < numbers.n {
+        return Written::Refused(Refusal::Unfinished, 0);
+    }
+    let words = d.words;
+    let later = d.later;
+    put_order(out, &words, &later, numbers)
+}
+
+// Draws an order file: its drawing file, or the refusal of document 01.
+pub fn draw(order: &[u8], out: &mut [u8]) -> Written
+    ensures { λ r. ⌜ Wrote (now (out .entry)) (drawFile (now (order .entry))) (now (out .exit)) r ⌝ }
+{
+    let done = drawing_of(order);
+    let d = done.drawing;
+    let answer = done.answer;
     match answer {
         Answer::Refused(r, p) => Written::Refused(r, p),
-        Answer::Accepted => put_drawing(
-            out,
-            &next,
-            &gap,
-            &owner,
-            &ys,
-            &dls,
-            &drs,
-            &hs,
-            &words,
-            &later,
-            &bends,
-            c,
-        ),
+        Answer::Accepted => drawing_file(d, out),
     }
 }
 
@@ -233,106 +298,4 @@ pub fn undraw(file: &[u8], out: &mut [u8]) -> Written
             }
         }
     }
-}
-
-// The drawing of an order file, by value; with a refusal goes a drawing of zeros.
-pub fn drawing_of(order: &[u8]) -> Done
-    ensures { λ r. ⌜ Gives (readOrder (now (order .entry))) r ⌝ }
-{
-    let mut next = [0u16; 1024];
-    let mut gap = [0u16; 1024];
-    let mut owner = [0u16; 1024];
-    let mut ys = [0u16; 1024];
-    let mut dls = [0u16; 1024];
-    let mut drs = [0u16; 1024];
-    let mut hs = [0u16; 1024];
-    let mut words = [0u16; 3072];
-    let mut later = [0u16; 3072];
-    let mut bends = [0u16; 3072];
-    let mut entries = [0u16; 65536];
-    let read = order_reader::read_order(
-        order,
-        &mut next,
-        &mut gap,
-        &mut owner,
-        &mut ys,
-        &mut dls,
-        &mut drs,
-        &mut hs,
-        &mut words,
-        &mut later,
-        &mut bends,
-        &mut entries,
-    );
-    let counts = read.counts;
-    let answer = read.answer;
-    let Answer::Accepted = answer else {
-        return Done {
-            answer,
-            drawing: drawing::no_drawing(),
-        };
-    };
-    let drawing = Drawing {
-        counts,
-        next,
-        gap,
-        owner,
-        ys,
-        dls,
-        drs,
-        hs,
-        words,
-        later,
-        bends,
-    };
-    Done { answer, drawing }
-}
-
-// The drawing file of a drawing: 22 while it is unfinished, 24 where the buffer is short.
-pub fn drawing_file(d: Drawing, out: &mut [u8]) -> Written
-    requires { ⌜ Came d ⌝ }
-    ensures { λ r. ⌜ ((q : Plan) → Reached q → Is q d → Wrote (now (out .entry)) (writeDrawing q) (now (out .exit)) r) ⌝ }
-{
-    let c = d.counts;
-    if c.k < c.n {
-        return Written::Refused(Refusal::Unfinished, 0);
-    }
-    let next = d.next;
-    let gap = d.gap;
-    let owner = d.owner;
-    let ys = d.ys;
-    let dls = d.dls;
-    let drs = d.drs;
-    let hs = d.hs;
-    let words = d.words;
-    let later = d.later;
-    let bends = d.bends;
-    put_drawing(
-        out,
-        &next,
-        &gap,
-        &owner,
-        &ys,
-        &dls,
-        &drs,
-        &hs,
-        &words,
-        &later,
-        &bends,
-        c,
-    )
-}
-
-// Its order file, in the same manner.
-pub fn order_file(d: Drawing, out: &mut [u8]) -> Written
-    requires { ⌜ Came d ⌝ }
-    ensures { λ r. ⌜ ((q : Plan) → Reached q → Is q d → Wrote (now (out .entry)) (wholeOrder q) (now (out .exit)) r) ⌝ }
-{
-    let c = d.counts;
-    if c.k < c.n {
-        return Written::Refused(Refusal::Unfinished, 0);
-    }
-    let words = d.words;
-    let later = d.later;
-    put_order(out, &words, &later, c)
 }

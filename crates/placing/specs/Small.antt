@@ -1,5 +1,5 @@
 -- Bounds under which no sum of a reach test wraps, and that they hold of a spot.
-use Prim.Native.Nat.{ℕ, zero, suc, pred, _+_, _*_, _<_, _≤_}
+use Prim.Native.Nat.{ℕ, zero, suc, pred, _*_, _<_, _≤_}
 use mathlib.Core.Bool.{Bool, true, false}
 use mathlib.Core.List.{List}
 use native.Mathlib.Omega.{arith}

@@ -11,6 +11,7 @@ use Rattle.rules.specs.Points.{Drawing, xOf, yOf, dlOf, drOf, hOf, lineAt}
 use Rattle.rules.specs.Ports.{bendOf}
 use Rattle.net.specs.Side.{rt, lf}
 use Rattle.net.specs.Frame.{point-in}
+use Rattle.net.specs.Ports.{aside-of}
 use Rattle.promise.specs.Nets.{kindOf}
 use Rattle.promise.specs.Sound.{Sound}
 use Rattle.links.specs.declared.Counts.{Counts}
@@ -71,8 +72,14 @@ module _ {d : Drawing} {xs ys dls drs hs : List ℕ} (s : Shows d xs ys dls drs 
     -- So do the ports of a line.
     fits-by : (b : Bend) → lineAt d e .bend ≡ b → Seen (lineAt d e .later) → Seen (lineAt d e .earlier) →
         PortFits xs ys dls drs hs (lineAt d e .later) (lineAt d e .earlier) b
-    fits-by (Left j) q v u = let t = sound .inv .slopes .slope lf j e el (ap kindOf q) in omega (arith, in-frame)
-    fits-by (Right j) q v u = let t = sound .inv .slopes .slope rt j e el (ap kindOf q) in omega (arith, in-frame)
+    fits-by (Left j) q v u =
+        let t = sound .inv .slopes .slope lf j e el (ap kindOf q) in
+        let f = aside-of _ (ap kindOf q) (sound .inv .core .lines .fits e el) in
+        omega (arith, in-frame, f .2)
+    fits-by (Right j) q v u =
+        let t = sound .inv .slopes .slope rt j e el (ap kindOf q) in
+        let f = aside-of _ (ap kindOf q) (sound .inv .core .lines .fits e el) in
+        omega (arith, in-frame, f .2)
     fits-by (Middle i) q v u =
         let t = sound .inv .slopes .reach i e el (ap kindOf q) in
         omega (arith, in-frame, sound .inv .core .points .frame (pred (lineAt d e .later)) (sound .inv .core .lines .ends e el .1))

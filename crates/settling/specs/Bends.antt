@@ -17,10 +17,10 @@ bendIn xs ys dls drs hs later earlier (Right j) = at (atPoint xs earlier + atPoi
 bendIn xs ys dls drs hs later earlier (Middle i) = at (atPoint xs later + i - atPoint hs later) (atPoint ys later - atPoint hs later)
 bendIn xs ys dls drs hs later earlier Straight = at (atPoint xs 1) (atPoint ys 1)
 
--- no port lies left of 0 or below it, and every sum fits 16 bits
+-- the port is one of those that its owner has, no port lies left of 0 or below it, and every sum fits 16 bits
 abbrev pub PortFits : List ℕ → List ℕ → List ℕ → List ℕ → List ℕ → ℕ → ℕ → Bend → Type 0
-PortFits xs ys dls drs hs later earlier (Left j) = (atPoint dls earlier + 1 ≤ atPoint xs earlier) × (atPoint ys earlier + j < 65536)
-PortFits xs ys dls drs hs later earlier (Right j) = (atPoint xs earlier + atPoint drs earlier + 1 < 65536) × (atPoint ys earlier + j < 65536)
+PortFits xs ys dls drs hs later earlier (Left j) = (j ≤ atPoint dls earlier) × (atPoint dls earlier + 1 ≤ atPoint xs earlier) × (atPoint ys earlier + j < 65536)
+PortFits xs ys dls drs hs later earlier (Right j) = (j ≤ atPoint drs earlier) × (atPoint xs earlier + atPoint drs earlier + 1 < 65536) × (atPoint ys earlier + j < 65536)
 PortFits xs ys dls drs hs later earlier (Middle i) = (atPoint xs later + i < 65536) × (atPoint hs later ≤ atPoint xs later + i) × (atPoint hs later ≤ atPoint ys later)
 PortFits xs ys dls drs hs later earlier Straight = Unit {0}
 
@@ -41,14 +41,14 @@ module _ {xs ys dls drs hs : List ℕ} {later earlier : ℕ} {b : Bend} (h : Ben
   later-is = omega arith
 
   module _ (j : ℕ) (e : b ≡ Left j) where
-    pub left-fits : (getD dls (earlier - 1) 0 + 1 ≤ getD xs (earlier - 1) 0) × (getD ys (earlier - 1) 0 + j < 65536)
+    pub left-fits : (j ≤ getD dls (earlier - 1) 0) × (getD dls (earlier - 1) 0 + 1 ≤ getD xs (earlier - 1) 0) × (getD ys (earlier - 1) 0 + j < 65536)
     left-fits = rw (e, earlier-is) at (h .fits)
 
     pub left-in : at (getD xs (earlier - 1) 0 - (getD dls (earlier - 1) 0 + 1)) (getD ys (earlier - 1) 0 + j) ≡ bendIn xs ys dls drs hs later earlier b
     left-in = rw (e, earlier-is)
 
   module _ (j : ℕ) (e : b ≡ Right j) where
-    pub right-fits : (getD xs (earlier - 1) 0 + getD drs (earlier - 1) 0 + 1 < 65536) × (getD ys (earlier - 1) 0 + j < 65536)
+    pub right-fits : (j ≤ getD drs (earlier - 1) 0) × (getD xs (earlier - 1) 0 + getD drs (earlier - 1) 0 + 1 < 65536) × (getD ys (earlier - 1) 0 + j < 65536)
     right-fits = rw (e, earlier-is) at (h .fits)
 
     pub right-in : at (getD xs (earlier - 1) 0 + getD drs (earlier - 1) 0 + 1) (getD ys (earlier - 1) 0 + j) ≡ bendIn xs ys dls drs hs later earlier b

@@ -1,6 +1,8 @@
 // The x of every placed point, from links and gaps, and the place where a line bends.
 use rules::Bend;
 use rules::Place;
+use words::broad;
+use words::narrow;
 ghost use mathlib.Core.Path.{_≡_};
 ghost use Prim.Native.Nat.{_+_, _-_, _<_, _≤_};
 ghost use lib.ListN.{length, getD};
@@ -9,21 +11,6 @@ ghost use Rattle.settling.specs.Walk.{firstPass, Walks};
 ghost use Rattle.settling.specs.Hang.{hangBy, HangsBy, hung, Hangs};
 ghost use Rattle.settling.specs.Placed.{Settleable, Settled};
 ghost use Rattle.settling.specs.Bends.{Bendable, bendIn};
-
-// A 16-bit number as a usize.
-fn broad(v: u16) -> usize
-    ensures { λ r. ⌜ r ≡ v ⌝ }
-{
-    v as usize
-}
-
-// A small usize as a 16-bit number.
-fn narrow(v: usize) -> u16
-    requires { ⌜ v < 65536 ⌝ }
-    ensures { λ r. ⌜ r ≡ v ⌝ }
-{
-    v as u16
-}
 
 // The first pass: boundary points along the links from point 1, which lies at 0.
 fn walk(x: &mut [u16; 1024], next: &[u16; 1024], gap: &[u16; 1024], k: usize)
@@ -89,7 +76,7 @@ pub fn settle(
 
 // Left port j of a point at (x, y) with dl left ports.
 fn left_port(x: u16, y: u16, dl: u16, j: u16) -> Place
-    requires { ⌜ (dl + 1 ≤ x) × (y + j < 65536) ⌝ }
+    requires { ⌜ (j ≤ dl) × (dl + 1 ≤ x) × (y + j < 65536) ⌝ }
     ensures { λ r. ⌜ r ≡ at (x - (dl + 1)) (y + j) ⌝ }
 {
     Place {
@@ -100,7 +87,7 @@ fn left_port(x: u16, y: u16, dl: u16, j: u16) -> Place
 
 // Right port j of a point at (x, y) with dr right ports.
 fn right_port(x: u16, y: u16, dr: u16, j: u16) -> Place
-    requires { ⌜ (x + dr + 1 < 65536) × (y + j < 65536) ⌝ }
+    requires { ⌜ (j ≤ dr) × (x + dr + 1 < 65536) × (y + j < 65536) ⌝ }
     ensures { λ r. ⌜ r ≡ at (x + dr + 1) (y + j) ⌝ }
 {
     Place {

@@ -1,6 +1,8 @@
 // What an accepted adding call stores into the ten lent arrays.
 use links::Counts;
 use links::Spot;
+use words::broad;
+use words::narrow;
 ghost use mathlib.Core.Path.{_≡_};
 ghost use Prim.Native.Nat.{suc, _+_, _-_, _<_, _≤_};
 ghost use lib.ListN.{length, getD};
@@ -9,21 +11,6 @@ ghost use Rattle.links.specs.Judging.{pointIn};
 ghost use Rattle.links.specs.Placing.{innerCount};
 ghost use Rattle.links.specs.Storing.{putAt, coveredGaps, coveredOwners, codeOf, filled, withPoint};
 ghost use Rattle.storing.specs.Storable.{Coverable, Linkable, Growable, Pushable, Storable};
-
-// A stored number, to compute with.
-fn broad(x: u16) -> usize
-    ensures { λ r. ⌜ r ≡ x ⌝ }
-{
-    x as usize
-}
-
-// A computed number, to store.
-fn narrow(v: usize) -> u16
-    requires { ⌜ v < 65536 ⌝ }
-    ensures { λ r. ⌜ r ≡ v ⌝ }
-{
-    v as u16
-}
 
 // The earlier point of an entry.
 fn point_of(e: u16) -> usize

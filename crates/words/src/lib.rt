@@ -30,7 +30,9 @@ pub fn word_at(s: &[u8], at: usize) -> u16
     requires { ⌜ at + 1 < length (now s) ⌝ }
     ensures { λ r. ⌜ r ≡ wordAt (now (s .entry)) at ⌝ }
 {
-    byte(s[at]) * 256 + byte(s[at + 1])
+    let high = byte(s[at]);
+    let low = byte(s[at + 1]);
+    high * 256 + low
 }
 
 // Writes a number's two bytes at `at`.

@@ -9,7 +9,7 @@ use Rattle.rules.specs.Refusals.{good}
 use Rattle.links.specs.declared.Counts.{Counts}
 use Rattle.links.specs.Arrays.{Arrays, arraysOf}
 use Rattle.links.specs.Storing.{spotFor}
-use Rattle.judging.specs.Passed.{accepted}
+use Rattle.links.specs.Answers.{accepted}
 use Rattle.adding.specs.Calls.{spotOver}
 use Rattle.adding.specs.Passing.{tests, Passing, passing, all-within, most, runs, small, storable, refused-early, refused-late, taken}
 use Rattle.adding.proofs.add.Statement.{statement}
@@ -35,7 +35,7 @@ abbrev judged : tie.After-spot-over → tie.After-enum-told
 judged o = o .before .before .before .before .before
 
 all-good : (d : tie.After-enum-told) → tests (arrays (start d)) (numbers (start d)) (entries (start d)) ≡ good tt
-all-good d = accepted _ (sym (d .before .before .judge .ensures) ∙ d .enum-told .given .1)
+all-good d = accepted _ (sym (d .before .before .judge .ensures) ∙ d .enum-told .given .1) .is
 
 pass : (d : tie.After-enum-told) → Passing (arrays (start d)) (numbers (start d)) (entries (start d))
 pass d = passing (start d .pre) (entries (start d)) (all-good d)

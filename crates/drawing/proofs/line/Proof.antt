@@ -1,5 +1,5 @@
 -- `line` meets its contract: the settled drawing is the same.
-use mathlib.Core.Path.{_≡_, sym, subst}
+use mathlib.Core.Path.{sym, subst}
 use Rattle.drawing.specs.View.{Is}
 use borrow.Author.Needs.{needs}
 use Rattle.drawing.proofs.line.Statement.{statement}

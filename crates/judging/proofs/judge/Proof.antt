@@ -1,10 +1,12 @@
 -- `judging::judge` meets its contract: each return gives the answer of the first test that fails.
 use mathlib.Core.Path.{_≡_, sym, _∙_}
+use native.Mathlib.Omega.{arith}
 use borrow.Author.Needs.{needs}
 use Rattle.rules.specs.declared.Answer.the-variants.{Accepted}
 use Rattle.rules.specs.Refusals.{answer}
+use Rattle.links.specs.Answers.{accepted}
 use Rattle.links.specs.Judging.{entriesPass, runPasses}
-use Rattle.judging.specs.Passed.{accepted, entries-within, within-up}
+use Rattle.judging.specs.Passed.{entries-within, within-up}
 use Rattle.judging.proofs.Stages.{finished, few, at-entries, at-run, not-last, not-whole, whole}
 use Rattle.judging.proofs.judge.Statement.{statement}
 use Rattle.judging.proofs.judge.Tie as tie
@@ -22,7 +24,7 @@ linked : (d : tie.After-enum-told3) →
 linked d = sym (d .before .before .judge-run .ensures) ∙ d .enum-told3 .given .1
 
 returns : tie.Need-returns
-returns c = finished _ _ _ _ _ _ (search needs)
+returns c = finished _ _ _ _ _ _ (omega (arith, c .if1 .taken))
 
 returns-2 : tie.Need-returns-2
 returns-2 c = few _ _ _ _ _ _ (search needs) (search needs)
@@ -45,7 +47,7 @@ judge-run-requires : tie.Need-judge-run-requires
 judge-run-requires c κs =
     let z = c .before .before .before .before .before .before in
     let a = z .args in
-    (z .pre .1, within-up (a .c .k) 1024 (a .e .now) (z .pre .2) (entries-within (a .owner .now) (a .c .k) 0 (a .e .now) (accepted _ (placed c))))
+    (z .pre .1, within-up (a .c .k) 1024 (a .e .now) (z .pre .2) (entries-within (a .owner .now) (a .c .k) 0 (a .e .now) (accepted _ (placed c) .is)))
 
 enum-told-3 : tie.Need-enum-told-3
 enum-told-3 c = search needs

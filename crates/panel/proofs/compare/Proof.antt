@@ -1,9 +1,8 @@
 -- `panel::compare` meets its contract. The loop's invariant: the answer is that of the bytes from i on.
-use Prim.Native.Nat.{ℕ, _-_, _≤_}
+use Prim.Native.Nat.{_-_, _≤_}
 use mathlib.Core.Path.{_≡_, _∙_}
 use lib.ListN.{length}
 use borrow.Author.Needs.{needs}
-use Rattle.rules.specs.Refusals.{answer}
 use Rattle.rules.specs.DrawingFile.{compareBytes}
 use Rattle.panel.specs.Comparing.{from, second-ended, first-ended, both-ended, differs, goes-on}
 use Rattle.panel.proofs.compare.Statement.{statement}

@@ -1,17 +1,12 @@
--- `panel::draw` meets its contract: what the order reader gave is a whole drawing, which is then written, or a refusal.
-use mathlib.Core.Path.{refl}
+-- `panel::draw` meets its contract: the file of the drawing that the order file gives, or a refusal.
 use borrow.Author.Needs.{needs}
-use Rattle.panel.specs.Reading.{ended, drawn, undrawn}
-use Rattle.panel.specs.Outputs.{turned}
+use Rattle.drawing.specs.Opens.{came-given}
+use Rattle.panel.specs.Reading.{undrawn, drawn}
 use Rattle.panel.proofs.draw.Statement.{statement}
 use Rattle.panel.proofs.draw.Tie as tie
 
-slice-aggregate-read-order : tie.Need-slice-aggregate-read-order
-slice-aggregate-read-order c = search needs
-
-read-order-requires : tie.Need-read-order-requires
-read-order-requires c κs =
-    record { zeros = record { next = refl; gap = refl; owner = refl; ys = refl; dls = refl; drs = refl; hs = refl; words = refl; later = refl; bends = refl }; room = refl }
+drawing-of-requires : tie.Need-drawing-of-requires
+drawing-of-requires c κs = search needs
 
 enum-known-answer : tie.Need-enum-known-answer
 enum-known-answer c = search needs
@@ -19,40 +14,29 @@ enum-known-answer c = search needs
 enum-told : tie.Need-enum-told
 enum-told c = search needs
 
--- where the answer was told
-told : tie.After-bends2 → tie.After-enum-told
-told c = c .before .before .before .before .before .before .before .before .before .before .before
-
-put-drawing-requires : tie.Need-put-drawing-requires
-unfolding told
-put-drawing-requires c κs =
-    let t = told c in
-    ended _ (t .before .before .before .before .read-order .ensures) (t .enum-told .given .1)
+drawing-file-requires : tie.Need-drawing-file-requires
+drawing-file-requires c κs = came-given (c .before .before .before .before .drawing-of .ensures) (c .before .enum-told .given .1)
 
 returns : tie.Need-returns
-returns c =
-    rw (undrawn _ (c .before .before .before .before .before .read-order .ensures) _ _ (c .before .answer .given .1)) (turned _ _ _)
+returns c = undrawn _ (c .before .before .before .before .drawing-of .ensures) _ _ _ (c .before .answer .given .1)
 
 same-length : tie.Need-same-length
 same-length c = search needs
 
 returns-2 : tie.Need-returns-2
-unfolding told
 returns-2 c =
-    let t = told (c .before .before .before) in
-    let g = t .before .before .before .before .read-order .ensures in
-    let e = ended _ g (t .enum-told .given .1) in
-    rw (drawn _ g (t .enum-told .given .1)) (c .before .before .put-drawing .ensures (e .d) (e .whole) (e .holds))
+    let f = c .before .before in
+    let t = f .before .before in
+    drawn _ (t .before .before .before .drawing-of .ensures) (t .enum-told .given .1) (f .drawing-file .ensures)
 
 pub draw-spec : {M : Type 1} → statement M
 draw-spec =
     tie.close
     (tie.spec
-    slice-aggregate-read-order
-    read-order-requires
+    drawing-of-requires
     enum-known-answer
     enum-told
-    put-drawing-requires
+    drawing-file-requires
     returns
     same-length
     returns-2)

@@ -7,7 +7,7 @@ use Rattle.panel.proofs.drawing_file.Statement.{statement}
 use Rattle.panel.proofs.drawing_file.Tie as tie
 
 returns : tie.Need-returns
-returns c q r t = rw (early t _ (search needs)) (turned _ _ _)
+returns c q r t = rw (early t _ (c .if1 .taken)) (turned _ _ _)
 
 put-drawing-requires : tie.Need-put-drawing-requires
 put-drawing-requires c κs = ended-late (c .before .before .before .before .before .before .before .before .before .before .before .before .before .before .before .before .before .before .before .before .before .before .before .before .before .pre) (search needs)

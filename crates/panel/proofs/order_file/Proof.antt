@@ -8,7 +8,7 @@ use Rattle.panel.proofs.order_file.Statement.{statement}
 use Rattle.panel.proofs.order_file.Tie as tie
 
 returns : tie.Need-returns
-returns c q r t = rw (early t _ (search needs)) (turned _ _ _)
+returns c q r t = rw (early t _ (c .if1 .taken)) (turned _ _ _)
 
 put-order-requires : tie.Need-put-order-requires
 put-order-requires c κs = lined-late (c .before .before .before .before .before .before .before .before .before .pre) (search needs)

@@ -5,10 +5,6 @@ use Rattle.panel.specs.Outputs.{short, full}
 use Rattle.panel.specs.Files.{need-is, finish, writable}
 use Rattle.panel.proofs.put_drawing.Statement.{statement}
 use Rattle.panel.proofs.put_drawing.Tie as tie
-use Rattle.panel.proofs.put_drawing.Reads as reads
-use Rattle.panel.proofs.put_drawing.Lts as lts
-use Rattle.drawing_writer.proofs.write_drawing.Reads as write-drawing-reads
-use Rattle.settling.proofs.settle.Reads as settle-reads
 
 -- src/lib.rt:47:16
 mul-need : tie.Need-mul-need

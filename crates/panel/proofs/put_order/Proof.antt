@@ -3,10 +3,6 @@ use native.Mathlib.Omega.{arith}
 use Rattle.panel.specs.Outputs.{short, full}
 use Rattle.panel.proofs.put_order.Statement.{statement}
 use Rattle.panel.proofs.put_order.Tie as tie
-use Rattle.panel.proofs.put_order.Reads as reads
-use Rattle.panel.proofs.put_order.Lts as lts
-use Rattle.order_writer.proofs.order_length.Reads as order-length-reads
-use Rattle.order_writer.proofs.write_order.Reads as write-order-reads
 
 -- src/lib.rt:65:9
 order-length-requires : tie.Need-order-length-requires

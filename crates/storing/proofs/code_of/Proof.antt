@@ -1,6 +1,6 @@
 -- `storing::code_of` meets its contract: the tests are those of `codeOf`.
 use mathlib.Core.Path.{_∙_}
-use native.Mathlib.Numerals.{add-one}
+use native.Mathlib.Omega.{arith}
 use borrow.Author.Tests.{eq-eqb, ne-eqb, lt-ltb, le-ltb}
 use borrow.Author.Needs.{needs}
 use Rattle.storing.proofs.code_of.Statement.{statement}
@@ -42,13 +42,13 @@ narrow-requires-4 c κs = search needs
 returns-3 : tie.Need-returns-3
 returns-3 c =
     let b = c .before .before in
-    c .narrow3 .ensures ∙ rw (ne-eqb _ _ (b .before .if1 .left), ne-eqb _ _ (b .if2 .left), lt-ltb _ _ (c .before .if3 .taken))
+    c .narrow3 .ensures ∙ rw (ne-eqb _ _ (b .before .if1 .left), ne-eqb _ _ (b .if2 .left), lt-ltb (b .before .before .args .i) (b .before .before .args .from) (omega (arith, c .before .if3 .taken)))
 
 returns-4 : tie.Need-returns-4
 returns-4 c =
     let b = c .before .before in
     c .narrow4 .ensures
-    ∙ rw (ne-eqb _ _ (b .before .if1 .left), ne-eqb _ _ (b .if2 .left), le-ltb _ _ (c .before .if3 .left), add-one)
+    ∙ rw (ne-eqb _ _ (b .before .if1 .left), ne-eqb _ _ (b .if2 .left), le-ltb (b .before .before .args .i) (b .before .before .args .from) (omega (arith, c .before .if3 .left))) (omega arith)
 
 pub code-of-spec : {M : Type 1} → statement M
 code-of-spec =
