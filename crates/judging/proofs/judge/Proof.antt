@@ -77,7 +77,7 @@ returns-6 c =
 returns-7 : tie.Need-returns-7
 returns-7 c =
     let d = c .before .before in
-    whole _ _ _ _ _ _ (search needs) (search needs) (placed (d .before .before .before)) (linked d) (search needs) (search needs)
+    whole _ _ _ _ _ _ (search needs) (search needs) (placed (d .before .before .before)) (linked d) (search needs) (c .if4 .left)
 
 pub judge-spec : {M : Type 1} → statement M
 judge-spec =
