@@ -66,7 +66,7 @@ pub enum CutSeen {
     Refused(Refusal, usize),
 }
 
-// A drawing of zeros, which goes with a refusal to open.
+// A drawing of zeros, which goes with a refusal to open or to run a list of calls.
 pub fn no_drawing() -> Drawing
     ensures { λ r. ⌜ r ≡ blank ⌝ }
 {

@@ -10,7 +10,7 @@ use Rattle.rules.specs.declared.Refusal.{Refusal}
 use Rattle.rules.specs.declared.Refusal.the-variants.{Finished, FewEntries, NotWhole}
 use Rattle.rules.specs.declared.Answer.the-variants.{Accepted, Refused}
 use Rattle.rules.specs.Refusals.{Result, good, refused, _>>_, refuseIf, answer}
-use Rattle.links.specs.Answers.{accepted}
+use Rattle.rules.specs.Answers.{accepted}
 use Rattle.links.specs.Judging.{entriesPass, runPasses, passes}
 
 -- a refusal is the answer, whatever comes behind it

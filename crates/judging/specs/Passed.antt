@@ -12,7 +12,7 @@ use Rattle.rules.specs.declared.Refusal.{Refusal}
 use Rattle.rules.specs.declared.Answer.the-variants.{Accepted}
 use Rattle.rules.specs.declared.Refusal.the-variants.{Finished, FewEntries, NotPlaced, Covered}
 use Rattle.rules.specs.Refusals.{Result, good, refused, _>>_, refuseIf, answer}
-use Rattle.links.specs.Answers.{accepted}
+use Rattle.rules.specs.Answers.{accepted}
 use Rattle.links.specs.Arrays.{atPoint}
 use Rattle.links.specs.Judging.{pointIn, entriesPass, passes}
 use Rattle.links.specs.Placing.{entryPoint}

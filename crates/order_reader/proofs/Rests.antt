@@ -20,7 +20,7 @@ use Rattle.adding.specs.Calls.{Answered}
 use Rattle.records.specs.Cursors.{cursor}
 use Rattle.records.specs.Reading.{Got}
 use Rattle.order_reader.specs.Points.{Went}
-use Rattle.records.specs.Results.{answer-refused}
+use Rattle.rules.specs.Answers.{refusing}
 
 -- the record is refused
 pub point-bad : (f : List ℕ) (at : ℕ) (r : Refusal) (p : ℕ) → readRecord pointEntries (cursor f at) ≡ refused r p → (d : Drawing) (k : ℕ) → readRest (suc k) d (cursor f at) ≡ refused r p
@@ -46,7 +46,7 @@ module _ {f e : List ℕ} {at n next : ℕ} (g : Got f at e n next) (d : Drawing
 
     -- by the call's answer
     pub stopped : (x : Refusal) (p : ℕ) → r .answer ≡ Refused x p → (k : ℕ) → readRest (suc k) d (cursor f at) ≡ refused x at
-    stopped x p q = point-refused x p (answer-refused (add d (take n e)) x p (sym answers ∙ q))
+    stopped x p q = point-refused x p (refusing (add d (take n e)) x p (sym answers ∙ q))
 
     pub went : r .answer ≡ Accepted → Went f at d a′ (r .counts) next
     went q = go (add d (take n e)) refl (sym answers ∙ q) holds

@@ -10,7 +10,7 @@ use Rattle.rules.specs.OrderFile.{readOrder}
 use Rattle.rules.specs.DrawingFile.{writeDrawing, drawFile}
 use Rattle.links.specs.declared.Added.{Added}
 use Rattle.links.specs.Arrays.{Arrays}
-use Rattle.links.specs.Answers.{accepted, refusing}
+use Rattle.rules.specs.Answers.{accepted, refusing}
 use Rattle.exchange.specs.Built.{Reached}
 use Rattle.exchange.specs.WholeRead.{whole-read}
 use Rattle.order_reader.specs.Points.{Gave}

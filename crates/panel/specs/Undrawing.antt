@@ -27,7 +27,7 @@ use Rattle.exchange.specs.Entries.{whole-so}
 use Rattle.drawing_reader.specs.Judged.{judgeDrawing, reads-so}
 use Rattle.drawing_reader.specs.Contracted.{LinesRead}
 use Rattle.panel.specs.Outputs.{Ended}
-use Rattle.links.specs.Answers.{accepted, refusing}
+use Rattle.rules.specs.Answers.{accepted, refusing}
 
 -- a drawing whose lines passed 4 to 9 is whole
 whole-judged : (f : List ℕ) (d : Plan) → judgeDrawing f ≡ good d → Whole d

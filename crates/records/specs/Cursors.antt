@@ -15,7 +15,8 @@ use Rattle.rules.specs.declared.Answer.the-variants.{Accepted, Refused}
 use Rattle.rules.specs.Refusals.{Result, good, refused, answer, _>>_, refuseIf}
 use Rattle.rules.specs.Records.{Shape, plain, Cursor, Found, wordsIn, wordsAt, restOf, readRecord, readEnd, pointEntries, endShape}
 use Rattle.words.specs.Bytes.{wordAt}
-use Rattle.records.specs.Results.{answer-refused, accepted}
+use Rattle.rules.specs.Answers.{refusing}
+use Rattle.records.specs.Results.{accepted}
 
 -- the file f from offset `at` on
 abbrev pub cursor : List ℕ → ℕ → Cursor
@@ -93,7 +94,7 @@ record-by r f at = go (ltb (length f) (at + 2)) refl
 module _ (r : Shape) (f : List ℕ) (at : ℕ) where
   -- the mark is refused
   pub unmarked : (x : Refusal) (p : ℕ) → answer (markAt (r .mark) f at) ≡ Refused x p → readRecord r (cursor f at) ≡ refused x p
-  unmarked x p q = rw (record-by r f at, answer-refused (markAt (r .mark) f at) x p q)
+  unmarked x p q = rw (record-by r f at, refusing (markAt (r .mark) f at) x p q)
 
   -- the mark is there
   pub marked-by : answer (markAt (r .mark) f at) ≡ Accepted → readRecord r (cursor f at) ≡ restOf at (r .size) (cursor f (at + 2))

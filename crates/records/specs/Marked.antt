@@ -15,7 +15,8 @@ use Rattle.rules.specs.declared.Answer.the-variants.{Accepted, Refused}
 use Rattle.rules.specs.Refusals.{Result, good, refused, answer, _>>_, _>>=_, refuseIf}
 use Rattle.rules.specs.Records.{Found, Several, wordsIn, wordsAt, readRecord, several}
 use Rattle.words.specs.Bytes.{wordAt}
-use Rattle.records.specs.Results.{answer-refused, accepted, answer-then, then-then, then-value, both}
+use Rattle.rules.specs.Answers.{refusing}
+use Rattle.records.specs.Results.{accepted, answer-then, then-then, then-value, both}
 use Rattle.records.specs.Cursors.{cursor, markAt, plainShape, record-by, mark-there}
 
 -- the bytes of a mark and `size` numbers
@@ -92,7 +93,7 @@ module _ (f : List ℕ) where
   module _ (mark size at : ℕ) where
     pub mark-refused : (r : Refusal) (p : ℕ) → answer (markAt mark f at) ≡ Refused r p → recordTest f mark size at ≡ refused r p
     unfolding recordTest
-    mark-refused r p h = rw (answer-refused (markAt mark f at) r p h)
+    mark-refused r p h = rw (refusing (markAt mark f at) r p h)
 
     module _ (h : answer (markAt mark f at) ≡ Accepted) where
       pub cut-off : length f < at + bytesIn size → recordTest f mark size at ≡ refused FileEnds at

@@ -2,21 +2,16 @@
 use Prim.Native.Nat.{ℕ}
 use mathlib.Core.Path.{_≡_, refl}
 use mathlib.Core.Bool.{Bool, true, false}
-use native.Mathlib.Omega.{arith}
 use Rattle.rules.specs.declared.Refusal.{Refusal}
 use Rattle.rules.specs.declared.Answer.the-variants.{Accepted, Refused}
+use Rattle.rules.specs.Answers as Answers
 use Rattle.rules.specs.Refusals.{Result, good, refused, answer, _>>_, _>>=_, refuseIf}
 
 -- ---- an answer
 
--- what it tells of its result
-pub answer-refused : {A : Type 0} (q : Result A) (r : Refusal) (p : ℕ) → answer q ≡ Refused r p → q ≡ refused r p
-answer-refused (good a) r p h = let z : _≡_ {A = ℕ} 0 1 = cc in absurd (omega arith)
-answer-refused (refused s o) r p h = cc
-
+-- tests that were passed
 pub accepted : (q : Result (Unit {0})) → answer q ≡ Accepted → q ≡ good tt
-accepted (good tt) h = refl
-accepted (refused s o) h = let z : _≡_ {A = ℕ} 0 1 = cc in absurd (omega arith)
+accepted q h = Answers.accepted q h .is
 
 -- a refusal is the answer, whatever comes behind it
 pub stops : {A : Type 0} (q : Result (Unit {0})) (z : Result A) (r : Refusal) (p : ℕ) → answer q ≡ Refused r p → answer q ≡ answer (q >> z)

@@ -16,4 +16,5 @@ pub mod Lookups
 pub mod Moves
 pub mod Ten
 pub mod Cases
+pub mod Answers
 pub mod RoundTrip

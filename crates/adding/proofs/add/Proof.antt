@@ -9,7 +9,7 @@ use Rattle.rules.specs.Refusals.{good}
 use Rattle.links.specs.declared.Counts.{Counts}
 use Rattle.links.specs.Arrays.{Arrays, arraysOf}
 use Rattle.links.specs.Storing.{spotFor}
-use Rattle.links.specs.Answers.{accepted}
+use Rattle.rules.specs.Answers.{accepted}
 use Rattle.adding.specs.Calls.{spotOver}
 use Rattle.adding.specs.Passing.{tests, Passing, passing, all-within, most, runs, small, storable, refused-early, refused-late, taken}
 use Rattle.adding.proofs.add.Statement.{statement}

@@ -4,7 +4,7 @@ use native.Mathlib.Omega.{arith}
 use borrow.Author.Needs.{needs}
 use Rattle.rules.specs.declared.Answer.the-variants.{Accepted}
 use Rattle.rules.specs.Refusals.{answer}
-use Rattle.links.specs.Answers.{accepted}
+use Rattle.rules.specs.Answers.{accepted}
 use Rattle.links.specs.Judging.{entriesPass, runPasses}
 use Rattle.judging.specs.Passed.{entries-within, within-up}
 use Rattle.judging.proofs.Stages.{finished, few, at-entries, at-run, not-last, not-whole, whole}
@@ -77,7 +77,7 @@ returns-6 c =
 returns-7 : tie.Need-returns-7
 returns-7 c =
     let d = c .before .before in
-    whole _ _ _ _ _ _ (search needs) (search needs) (placed (d .before .before .before)) (linked d) (search needs) (search needs)
+    whole _ _ _ _ _ _ (search needs) (search needs) (placed (d .before .before .before)) (linked d) (search needs) (c .if4 .left)
 
 pub judge-spec : {M : Type 1} → statement M
 judge-spec =

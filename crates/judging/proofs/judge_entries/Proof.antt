@@ -46,12 +46,12 @@ broad-requires : tie.Need-broad-requires Inv-loop μ-loop
 broad-requires c κs = search needs
 
 returns : tie.Need-returns Inv-loop μ-loop
-returns c = rw (turn (c .before), eq-eqb (c .before .broad .result) 0 (search needs))
+returns c = rw (turn (c .before), eq-eqb (c .before .broad .result) 0 (c .if1 .taken))
 
 returns-2 : tie.Need-returns-2 Inv-loop μ-loop
 returns-2 c =
     let d = c .before .before in
-    rw (turn d, ne-eqb _ _ (c .before .if1 .left), lt-ltb (count d) (d .broad .result) (search needs))
+    rw (turn d, ne-eqb _ _ (c .before .if1 .left), lt-ltb (count d) (d .broad .result) (c .if2 .taken))
 
 sub-if3 : tie.Need-sub-if3 Inv-loop μ-loop
 sub-if3 c = search needs
@@ -66,7 +66,7 @@ returns-3 : tie.Need-returns-3 Inv-loop μ-loop
 returns-3 c =
     let b = c .before .before .before in
     let d = b .before in
-    rw (turn d, ne-eqb _ _ (b .if1 .left), le-ltb (count d) (d .broad .result) (search needs), ne-eqb _ _ (c .if3 .taken))
+    rw (turn d, ne-eqb _ _ (b .if1 .left), le-ltb (count d) (d .broad .result) (c .before .before .if2 .left), ne-eqb _ _ (c .if3 .taken))
 
 add-i : tie.Need-add-i Inv-loop μ-loop
 add-i c = search needs
@@ -78,7 +78,7 @@ loop-again : tie.Need-loop-again Inv-loop μ-loop
 loop-again c =
     let b = c .before .before .before in
     let d = b .before in
-    (search needs, turn d ∙ rw (ne-eqb _ _ (b .if1 .left), le-ltb (count d) (d .broad .result) (search needs), eq-eqb _ _ (c .if3 .left)))
+    (search needs, turn d ∙ rw (ne-eqb _ _ (b .if1 .left), le-ltb (count d) (d .broad .result) (c .before .before .if2 .left), eq-eqb _ _ (c .if3 .left)))
 
 returns-4 : tie.Need-returns-4 Inv-loop μ-loop
 returns-4 c = rw (c .before .loop .inv .1, drop-of-length-le _ (c .loop-test .left))
