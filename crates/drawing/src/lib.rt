@@ -17,7 +17,7 @@ ghost use Rattle.links.specs.Opening.{threeLines, noPoints};
 ghost use Rattle.settling.specs.Placed.{Settleable, Settled};
 ghost use Rattle.drawing.specs.View.{Is, Came, pointSeen, lineSeen, sought};
 ghost use Rattle.drawing.specs.Opens.{blank, openDrawing, Opens};
-ghost use Rattle.drawing.specs.Lines.{bendFrom, lineOf, lineIn};
+ghost use Rattle.drawing.specs.Lines.{lineOf, lineIn};
 ghost use Rattle.drawing.specs.Cuts.{cutTo, FirstCut};
 ghost use Rattle.drawing.specs.Adds.{AddsTo};
 ghost use Rattle.drawing.specs.Places.{IsPlaced};
@@ -271,22 +271,6 @@ pub fn point(d: Drawing, p: usize) -> PointSeen
     point_at(settle(d), p)
 }
 
-// A bend, read from its number.
-fn bend_from(code: u16) -> Bend
-    ensures { λ r. ⌜ r ≡ bendFrom code ⌝ }
-{
-    if code < 4096 {
-        return Bend::Straight;
-    }
-    if code < 8192 {
-        return Bend::Right(code - 4096);
-    }
-    if code < 12288 {
-        return Bend::Left(code - 8192);
-    }
-    Bend::Middle(code - 12288)
-}
-
 // The line of an entry, with its later point and its bend.
 fn line_of(x: Entry, later: u16, bend: Bend) -> Line
     ensures { λ r. ⌜ r ≡ lineOf x later bend ⌝ }
@@ -304,7 +288,11 @@ fn line_in(words: &[u16; 3072], later: &[u16; 3072], bends: &[u16; 3072], e: usi
     requires { ⌜ (length (now words) ≡ 3072) × (length (now later) ≡ 3072) × (length (now bends) ≡ 3072) × (e < 3072) ⌝ }
     ensures { λ r. ⌜ r ≡ lineIn (now (words .entry)) (now (later .entry)) (now (bends .entry)) e ⌝ }
 {
-    line_of(entries::split(words[e]), later[e], bend_from(bends[e]))
+    line_of(
+        entries::split(words[e]),
+        later[e],
+        bends::bend_from(bends[e]),
+    )
 }
 
 // A line with its ends, bend and cut flag, and where its bend lies.

@@ -6,17 +6,16 @@ use native.Mathlib.Omega.{arith}
 use lib.ListN.{length, getD, take, length-append}
 use lib.Seq.{getD-take}
 use Rattle.rules.specs.declared.Line.{Line}
-use Rattle.rules.specs.declared.Bend.{Bend}
-use Rattle.rules.specs.declared.Bend.the-variants.{Left, Right, Middle, Straight}
-use Rattle.rules.specs.Points.{Drawing, m, W, lineAt}
-use Rattle.rules.specs.Ports.{bendOf, bendPlace}
+use Rattle.rules.specs.Points.{Drawing, m, lineAt}
+use Rattle.rules.specs.Ports.{bendPlace}
 use Rattle.rules.specs.Records.{written, pointPlace, lineShape, endShape}
 use Rattle.rules.specs.DrawingFile.{highest, writePoints, lineWords, writeLines, drawingBytes}
 use Rattle.links.specs.declared.Counts.{Counts}
-use Rattle.promise.specs.Bounds.{Standing, width-most, bend-most}
+use Rattle.promise.specs.Bounds.{Standing}
 use Rattle.promise.specs.Within.{counted}
 use Rattle.settling.specs.Bending.{Shows, bend-right}
-use Rattle.bends.specs.Codes.{bendFrom, Indexed, bend-back}
+use Rattle.bends.specs.Codes.{bendFrom, bend-back}
+use Rattle.bends.specs.Indexes.{indexed}
 use Rattle.drawing_writer.specs.Lists.{Lists, several, pointBytes, lineIn, bendAt, lineBytes, fileBytes}
 use Rattle.drawing_writer.specs.Stores.{length-several}
 use Rattle.drawing_writer.specs.Finished.{Finished}
@@ -93,22 +92,12 @@ module _ {d : Drawing} {a : Lists} {c : Counts} (h : Finished d a c) where
         let most : (pred (lineAt d e .earlier) < d .k) × (pred (lineAt d e .later) < d .k) = h .standing .sound .inv .core .lines .ends e el in
         (some .1, omega (arith, most .1), some .0, omega (arith, most .0))
 
-    -- A right or left port's index is small: its bend lies in the frame.
-    indexed : Indexed (lineAt d e .bend)
-    indexed = go (lineAt d e .bend) (bend-most d (h .standing) e el .1)
-      where
-        go : (b : Bend) → 2 * bendOf d (lineAt d e .later) (lineAt d e .earlier) b .y + 2 ≤ W d → Indexed b
-        go (Right j) k = omega (arith, width-most d (h .standing))
-        go (Left j) k = omega (arith, width-most d (h .standing))
-        go (Middle i) k = tt
-        go Straight k = tt
-
     -- The line that the lists have is the drawing's.
     pub line-is : lineIn a e ≡ lineAt d e
     line-is =
         let v = h .later e el in
         let u = h .entry e el in
-        let b : bendFrom (getD (a .bends) e 0) ≡ lineAt d e .bend = ap bendFrom (h .bend e el) ∙ bend-back (lineAt d e .bend) indexed in
+        let b : bendFrom (getD (a .bends) e 0) ≡ lineAt d e .bend = ap bendFrom (h .bend e el) ∙ bend-back (lineAt d e .bend) (indexed d (h .standing) e el) in
         λ i. record { later = v i; earlier = u i .point; bend = b i; cut = u i .cut }
 
     -- So is its bend.
