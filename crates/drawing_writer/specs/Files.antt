@@ -6,13 +6,12 @@ use native.Mathlib.Omega.{arith}
 use lib.ListN.{length, getD, take, length-append}
 use lib.Seq.{getD-take}
 use Rattle.rules.specs.declared.Line.{Line}
-use Rattle.rules.specs.Points.{Drawing, m, lineAt}
+use Rattle.rules.specs.Points.{Drawing, lineAt}
 use Rattle.rules.specs.Ports.{bendPlace}
 use Rattle.rules.specs.Records.{written, pointPlace, lineShape, endShape}
 use Rattle.rules.specs.DrawingFile.{highest, writePoints, lineWords, writeLines, drawingBytes}
 use Rattle.links.specs.declared.Counts.{Counts}
 use Rattle.promise.specs.Bounds.{Standing}
-use Rattle.promise.specs.Within.{counted}
 use Rattle.settling.specs.Bending.{Shows, bend-right}
 use Rattle.bends.specs.Codes.{bendFrom, bend-back}
 use Rattle.bends.specs.Indexes.{indexed}
@@ -66,10 +65,6 @@ length-file {d} t =
     let lp : length p ≡ 6 * length (d .xs) = ap length (points-are (d .s) (d .xs) (d .ys) (z .xs ∙ sym (z .ys))) ∙ length-several (pointBytes (d .s) (d .xs) (d .ys)) 6 (λ i. refl) (length (d .xs)) in
     let ll : length l ≡ 12 * length (d .lines) = ap length (lines-are d (d .lines) _) ∙ length-several (λ e. lineRecord d (lineAt d e)) 12 (λ e. refl) (length (d .lines)) in
     omega (arith, length-append p (l ++ written endShape []), length-append l (written endShape []), z .xs)
-
--- Of a finished one, whose boundary has three points, 42 n - 60 bytes.
-pub length-drawing : {d : Drawing} → Standing d → m d ≡ 3 → d .k ≡ d .n → length (drawingBytes d) + 60 ≡ 42 * d .n
-length-drawing t three full = omega (arith, length-file t, counted (t .sound))
 
 -- ---- the lists of a finished drawing
 

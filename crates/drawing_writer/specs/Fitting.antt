@@ -6,14 +6,14 @@ use native.Mathlib.Nat.{mul-le-mul}
 use native.Mathlib.Omega.{arith}
 use lib.ListN.{length, getD, take}
 use Rattle.rules.specs.declared.Line.{Line}
-use Rattle.rules.specs.Points.{Drawing, m, W, lineAt}
+use Rattle.rules.specs.Points.{Drawing, W, lineAt}
 use Rattle.rules.specs.DrawingFile.{highest, drawingBytes}
 use Rattle.links.specs.declared.Counts.{Counts}
 use Rattle.promise.specs.Bounds.{width-most, lines-most, place-most, bend-most}
 use Rattle.settling.specs.Bending.{bendable-of}
 use Rattle.drawing_writer.specs.Lists.{Lists}
 use Rattle.drawing_writer.specs.Finished.{Finished, Writable, PointsReady, LineFits, LinesReady}
-use Rattle.drawing_writer.specs.Files.{length-file, length-drawing, shows, x-is, y-is, line-is, bend-is, file-is}
+use Rattle.drawing_writer.specs.Files.{length-file, shows, x-is, y-is, line-is, bend-is, file-is}
 
 -- The largest of numbers up to b.
 highest-most : (ys : List ℕ) (b : ℕ) → ((i : ℕ) → i < length ys → getD ys i 0 ≤ b) → highest ys ≤ b
@@ -106,9 +106,3 @@ ready {a} {c} {buffer} w =
 -- The file of every finished drawing that is held so has room.
 pub has-room : {a : Lists} {c : Counts} {buffer : List ℕ} {d : Drawing} → Writable a c buffer → Finished d a c → length (drawingBytes d) ≤ length buffer
 has-room w h = omega (arith, ap length (file-is h), ap length (file-is (w .finished)), w .room)
-
--- ---- for callers
-
--- A finished drawing whose boundary has three points wants 42 n - 60 bytes of the buffer.
-pub writable-of : {d : Drawing} {a : Lists} {c : Counts} {buffer : List ℕ} → Finished d a c → m d ≡ 3 → 42 * d .n ≤ length buffer + 60 → Writable a c buffer
-writable-of {d} h three room = record { d = d; finished = h; room = omega (arith, length-drawing (h .standing) three (h .full)) }

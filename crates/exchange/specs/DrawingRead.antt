@@ -1,32 +1,27 @@
 -- DEMAND 2, drawing files: reading the drawing file of a finished drawing gives the drawing back, and what is read is such a file.
-use Prim.Native.Nat.{ℕ, suc, pred, _+_, _-_, _*_, _<_, _≤_}
+use Prim.Native.Nat.{ℕ, suc, _+_, _-_, _*_, _≤_}
 use mathlib.Core.Path.{_≡_, refl, ap, ap₂, sym, _∙_, subst}
 use mathlib.Core.Bool.{Bool, true, false, not, _&&_, false≢true}
 use mathlib.Core.List.{List, [], _∷_, _++_}
-use native.Mathlib.Nat.{mul-le-mul}
 use native.Mathlib.Omega.{arith}
 use lib.ListN.{length, getD, length-append}
 use lib.Dec.{eqb, leb}
 use borrow.Author.Tests.{eq-eqb, eqb-true, le-leb, leb-true, not-false}
-use Rattle.rules.specs.declared.Line.{Line}
 use Rattle.rules.specs.declared.Entry.{Entry}
 use Rattle.rules.specs.declared.Refusal.the-variants.{OutOfRange, OtherDrawing}
 use Rattle.rules.specs.Basics.{between}
 use Rattle.rules.specs.Refusals.{good}
-use Rattle.rules.specs.Points.{Drawing, m, W, lineAt}
-use Rattle.rules.specs.Ports.{bendPlace}
-use Rattle.rules.specs.Records.{plain, bytesOf, written, readRecord, several, readEnd, fromStart, drawingHead, pointPlace, lineShape, endShape}
+use Rattle.rules.specs.Points.{Drawing, m, W}
+use Rattle.rules.specs.Records.{written, readRecord, several, readEnd, fromStart, drawingHead, pointPlace, lineShape, endShape}
 use Rattle.rules.specs.RoundTrip.{length-bytes, record-back}
-use Rattle.rules.specs.DrawingFile.{highest, writePoints, lineWords, drawingBytes, judgeLines, compareBytes, readDrawing}
-use Rattle.promise.specs.Promise.{IsLine}
+use Rattle.rules.specs.DrawingFile.{highest, writePoints, drawingBytes, judgeLines, compareBytes, readDrawing}
 use Rattle.promise.specs.Next.{next}
 use Rattle.promise.specs.Accepted.{accepted}
 use Rattle.promise.specs.Border.{m′}
-use Rattle.promise.specs.Bounds.{Standing, standing-start, standing-added, width-most, place-most, bend-most}
+use Rattle.promise.specs.Bounds.{Standing, standing-start, standing-added}
 use Rattle.promise.specs.Within.{counted}
-use Rattle.exchange.specs.Built.{Built, begun, added, Whole, Bytes}
+use Rattle.exchange.specs.Built.{Built, begun, added, Whole}
 use Rattle.exchange.specs.Results.{never-good, bound, binds-to, tested, goes-to, followed, same-value}
-use Rattle.exchange.specs.Numbers.{Words, AllWords, words-nil, words-cons, bytes-append, bytes-words}
 use Rattle.exchange.specs.Entries.{whole-so}
 use Rattle.exchange.specs.Groups.{writtenAll, AllFit, foundAll, several-back, length-all, linesWords, lines-are, lines-fit, length-lines, lines-read, grown, counts, judge-built, judged-built}
 
@@ -203,61 +198,3 @@ length-drawing d w =
     let e1 = length-append (writtenAll pointPlace pw) (writtenAll lineShape lw ++ written endShape []) in
     let e2 = length-append (writtenAll lineShape lw) (written endShape []) in
     omega (arith, z .xs, z .lines)
-
--- ---- every number written fits 16 bits
-
--- places and lengths times s are at most 8 * 5,111, and the ends of lines are points
-pub record Small (d : Drawing) : Type 0 where
-  pub width : d .s * W d ≤ 40888
-  pub height : d .s * highest (d .ys) ≤ 40888
-  pub xs : (i : ℕ) → i < d .n → d .s * getD (d .xs) i 0 ≤ 40888
-  pub ys : (i : ℕ) → i < d .n → d .s * getD (d .ys) i 0 ≤ 40888
-  pub ends : (e : ℕ) → IsLine d e → (lineAt d e .later ≤ d .n) × (lineAt d e .earlier ≤ d .n)
-  pub bends : (e : ℕ) → IsLine d e → (d .s * bendPlace d (lineAt d e) .x ≤ 40888) × (d .s * bendPlace d (lineAt d e) .y ≤ 40888)
-
--- the largest of numbers up to b
-highest-most : (ys : List ℕ) (b : ℕ) → ((i : ℕ) → i < length ys → getD ys i 0 ≤ b) → highest ys ≤ b
-highest-most [] b g = omega arith
-highest-most (y ∷ ys) b g = omega (arith, g 0 (omega arith), highest-most ys b (λ i k. g (suc i) (omega arith)))
-
--- a finished drawing's numbers are so
-pub small : (d : Drawing) → Whole d → Small d
-small d w =
-    let t = standing (w .reached .built) (w .reached .low) (w .reached .high) in
-    let z = sizes d w in
-    let wide = width-most d t in
-    let place : (i : ℕ) → i < d .n → (getD (d .xs) i 0 ≤ W d) × (2 * getD (d .ys) i 0 + 2 ≤ W d) = λ i k. place-most d t (suc i) (omega arith) (omega (arith, w .full)) in
-    let end = t .sound .inv .core .lines .ends in
-    record {
-      width = scaled wide;
-      height = scaled (highest-most (d .ys) 5111 (λ i k. omega (arith, place i (omega (arith, z .ys)))));
-      xs = λ i k. scaled (omega (arith, place i k));
-      ys = λ i k. scaled (omega (arith, place i k));
-      ends = λ e k. (up (end e k .1) (w .full), up (end e k .0) (w .full));
-      bends = λ e k. (scaled (omega (arith, bend-most d t e k)), scaled (omega (arith, bend-most d t e k)));
-    }
-  where
-    scaled : {a : ℕ} → a ≤ 5111 → d .s * a ≤ 40888
-    scaled h = mul-le-mul (w .reached .scale .1) h
-
-    up : {a k n : ℕ} → pred a < k → k ≡ n → a ≤ n
-    up h e = omega arith
-
--- the numbers of point records, over plain lists
-points-words : (s : ℕ) (xs ys : List ℕ) → ((i : ℕ) → i < length xs → s * getD xs i 0 ≤ 40888) → ((i : ℕ) → i < length ys → s * getD ys i 0 ≤ 40888) → AllWords (pointsWords s xs ys)
-points-words s [] ys f g = tt
-points-words s (x ∷ xs) [] f g = tt
-points-words s (x ∷ xs) (y ∷ ys) f g =
-    (words-cons (omega (arith, f 0 (omega arith))) (words-cons (omega (arith, g 0 (omega arith))) words-nil), points-words s xs ys (λ i k. f (suc i) (omega arith)) (λ i k. g (suc i) (omega arith)))
-
--- the numbers of line records, where those of each line are known
-lines-words : (d : Drawing) (ls : List Line) (z : Line) → ((e : ℕ) → e < length ls → Words (lineWords (d .s) (getD ls e z) (bendPlace d (getD ls e z)))) → AllWords (linesWords d ls)
-lines-words d [] z f = tt
-lines-words d (l ∷ ls) z f = (f 0 (omega arith), lines-words d ls z (λ e k. f (suc e) (omega arith)))
-
--- ---- so the file is a list of bytes
-
--- so are those of several records
-bytes-all : (mark c : ℕ) (wss : List (List ℕ)) → mark < 65536 → AllWords wss → Bytes (writtenAll (record { mark = mark; size = plain c }) wss)
-bytes-all mark c [] a h = bytes-words [] words-nil
-bytes-all mark c (ws ∷ wss) a h = bytes-append (bytesOf (mark ∷ ws)) (bytes-words (mark ∷ ws) (words-cons a (h .0))) (bytes-all mark c wss a (h .1))

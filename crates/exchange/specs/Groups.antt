@@ -224,14 +224,6 @@ module _ (n s : ℕ) (second third : List Entry) where
 
 -- ---- the groups of points 1 to 3
 
--- the same list passes the test
-pub same-is : (l k : List ℕ) → l ≡ k → same l k ≡ true
-same-is l k e = rw e (own k)
-  where
-    own : (k : List ℕ) → same k k ≡ true
-    own [] = refl
-    own (a ∷ k) = rw (eq-eqb a a refl) (own k)
-
 -- and one that passes it is the same
 pub is-same : (l k : List ℕ) → same l k ≡ true → l ≡ k
 is-same [] [] h = refl

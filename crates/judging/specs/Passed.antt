@@ -6,33 +6,20 @@ use mathlib.Core.List.{List, [], _∷_}
 use native.Mathlib.Nat.{le-trans, pos-of-ne-zero}
 use native.Mathlib.Omega.{arith}
 use lib.ListN.{length}
-use lib.Dec.{leb, ltb, eqb}
-use borrow.Author.Tests.{leb-false, ltb-false, eqb-false}
+use lib.Dec.{ltb, eqb}
+use borrow.Author.Tests.{ltb-false, eqb-false}
 use Rattle.rules.specs.declared.Refusal.{Refusal}
-use Rattle.rules.specs.declared.Answer.the-variants.{Accepted}
-use Rattle.rules.specs.declared.Refusal.the-variants.{Finished, FewEntries, NotPlaced, Covered}
-use Rattle.rules.specs.Refusals.{Result, good, refused, _>>_, refuseIf, answer}
-use Rattle.rules.specs.Answers.{accepted}
+use Rattle.rules.specs.declared.Refusal.the-variants.{NotPlaced, Covered}
+use Rattle.rules.specs.Refusals.{Result, good, _>>_, refuseIf}
 use Rattle.links.specs.Arrays.{atPoint}
-use Rattle.links.specs.Judging.{pointIn, entriesPass, passes}
+use Rattle.links.specs.Judging.{pointIn, entriesPass}
 use Rattle.links.specs.Placing.{entryPoint}
 use Rattle.links.specs.Runs.{Within}
-
-pub record Passed (owner next : List ℕ) (n k m : ℕ) (es : List ℕ) : Type 0 where
-  pub enough : 1 < length es
-  pub within : Within k es
-  pub room : k < n
-  pub all-good : passes owner next n k m es ≡ good tt
 
 -- a test that was passed is false, and the tests behind it are passed
 pub behind : (b : Bool) (f : Refusal) (p : ℕ) (r : Result (Unit {0})) → (refuseIf b f p >> r) ≡ good tt → (b ≡ false) × (r ≡ good tt)
 behind true f p r h = (cc, cc)
 behind false f p r h = (refl, h)
-
--- and so are the tests before and behind another
-pub both : (q r : Result (Unit {0})) → (q >> r) ≡ good tt → (q ≡ good tt) × (r ≡ good tt)
-both (good tt) r h = (refl, h)
-both (refused f p) r h = (cc, cc)
 
 or-false : (a b : Bool) → (a || b) ≡ false → (a ≡ false) × (b ≡ false)
 or-false true b h = (h, cc)
@@ -63,17 +50,3 @@ entries-within owner k i (e ∷ es) h =
 -- among more points too
 pub within-up : (k l : ℕ) (es : List ℕ) → k ≤ l → Within k es → Within l es
 within-up k l es h w = record { low = w .low; high = λ i b. le-trans (w .high i b) h }
-
--- what an accepted call is known to be
-pub passed : (owner next : List ℕ) (n k m : ℕ) (es : List ℕ) → answer (passes owner next n k m es) ≡ Accepted → Passed owner next n k m es
-unfolding passes
-passed owner next n k m es h =
-    let all = accepted (passes owner next n k m es) h .is in
-    let room = behind (leb n k) Finished 0 _ all in
-    let enough = behind (ltb (length es) 2) FewEntries 0 _ (room .1) in
-    record {
-      enough = ltb-false (length es) 2 (enough .0);
-      within = entries-within owner k 0 es (both (entriesPass owner k 0 es) _ (enough .1) .0);
-      room = leb-false n k (room .0);
-      all-good = all;
-    }

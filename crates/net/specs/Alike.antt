@@ -1,15 +1,11 @@
 -- 8, for both drawings: two different lines differ in at least one end.
 use Prim.Native.Nat.{ℕ, _+_, _<_}
 use mathlib.Core.Path.{_≡_, ap}
-use mathlib.Core.Logic.{_≢_}
 use native.Mathlib.Omega.{arith}
 use Rattle.net.specs.Side.{Tie, at, at-in}
 use Rattle.net.specs.Net.{Net}
 use Rattle.net.specs.Inv.{Points, Lines, Alike}
 use Rattle.net.specs.Adds.{Line, old, tip, rib, Adds}
-
-pub same-way : {g : Net} → Alike g → (e f : ℕ) → e < g .L → f < g .L → e ≢ f → g .u e ≡ g .u f → g .v e ≡ g .v f → ⊥
-same-way b e f el fl d p q = d (b .one e f el fl p q)
 
 pub other-way : {g : Net} → Alike g → (e f : ℕ) → e < g .L → f < g .L → g .u e ≡ g .v f → g .v e ≡ g .u f → ⊥
 other-way b e f el fl p q = omega (arith, b .up e el, b .up f fl)

@@ -17,7 +17,6 @@ use Rattle.drawing_writer.specs.Lists.{listsOf}
 use Rattle.drawing_writer.specs.Finished.{Finished, Writable, finished-of}
 use Rattle.exchange.specs.Built.{Whole}
 use Rattle.exchange.specs.DrawingRead.{length-drawing}
-use Rattle.order_writer.specs.Writing.{LinesStored}
 use Rattle.panel.specs.declared.Written.{Written}
 use Rattle.panel.specs.Outputs.{Ended, Wrote}
 
@@ -34,10 +33,6 @@ finish {d} w h s = finished-of h (s .long) (s .right d (h .standing .sound) (pla
 pub writable : {a : Arrays} {c : Counts} {x out : List ℕ} → Ended a c → Settled x (a .next) (a .gap) (a .owner) (c .k) → 42 * c .n - 60 ≤ length out →
     Writable (listsOf x (a .ys) (a .dls) (a .drs) (a .hs) (a .words) (a .later) (a .bends)) c out
 writable e s room = record { d = e .d; finished = finish (e .whole) (e .holds) s; room = omega (arith, need-is (e .whole) (e .holds)) }
-
--- the lines of a drawing that the arrays hold
-pub lines-of : {d : Plan} {a : Arrays} {c : Counts} → Holds d a c → LinesStored d (a .words) (a .later) c
-lines-of h = let t = h .stores in record { n = t .n; s = t .s; k = t .k; lines = t .lines; later = t .later; entry = t .entry }
 
 -- a buffer for the longest drawing file begins with the drawing that was written into it
 pub begins : {d : Plan} {a : Arrays} {c : Counts} {before after : List ℕ} {r : Written} → Whole d → Holds d a c → length before ≡ 42948 → Wrote before (good (drawingBytes d)) after r →

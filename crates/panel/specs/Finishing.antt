@@ -11,7 +11,7 @@ use Rattle.exchange.specs.Built.{Reached, Whole}
 use Rattle.drawing.specs.declared.Drawing.{Drawing}
 use Rattle.drawing.specs.View.{arraysIn, Is, Came}
 use Rattle.panel.specs.Outputs.{Ended, Lined}
-use Rattle.panel.specs.Files.{lines-of}
+use Rattle.order_writer.specs.Writing.{lines-stored}
 
 module _ {q : Plan} {d : Drawing} (t : Is q d) where
   -- no file yet
@@ -30,4 +30,4 @@ pub ended-late : {d : Drawing} → Came d → d .counts .n ≤ d .counts .k → 
 ended-late c h = record { d = c .plan; whole = whole-late (c .is) (c .reached) h; holds = c .is }
 
 pub lined-late : {d : Drawing} → Came d → d .counts .n ≤ d .counts .k → Lined (d .words) (d .later) (d .counts)
-lined-late c h = record { d = c .plan; whole = whole-late (c .is) (c .reached) h; stored = lines-of (c .is) }
+lined-late c h = record { d = c .plan; whole = whole-late (c .is) (c .reached) h; stored = lines-stored (c .is .stores) }

@@ -8,7 +8,7 @@ use native.Mathlib.Nat.{eq-of-mul-eq-mul-left, mul-pos, le-of-lt, add-sub-of-le}
 use native.Mathlib.Decide.{decLt}
 use Rattle.rules.specs.declared.Place.{Place}
 use Rattle.rules.specs.Meeting.{crossPlus, crossMinus, meet}
-use Rattle.plane.specs.Common.{Common, meet-common}
+use Rattle.plane.specs.Common.{meet-common}
 use Rattle.plane.specs.Exact.{balance, unbalanced}
 use Rattle.plane.specs.Bools.{is-false}
 use Rattle.plane.specs.Apart.{OnlyAt}
@@ -97,20 +97,3 @@ steep m w z h₁ h₂ h₃ h₄ h₅ =
           let k : w .x + w .y < m .x + m .y = omega arith in
           omega (arith, cross-le h₁ (le-of-lt h₅), cross-lt k h₄)
     ]
-
--- ---- two pieces that share an end, each of the other ends clear of the other piece
-
--- the common point of two pieces from e, seen from p, and from r
-inner : (e p r : Place) (w : Common e p e r) → 0 < w .B → w .D ≤ w .B → Common p p e r
-inner e p r w h k =
-    let z = add-sub-of-le k in
-    record {
-      A = w .B;
-      B = 0;
-      C = w .B - w .D;
-      D = w .D;
-      pos = omega arith;
-      tot = omega arith;
-      eqx = omega (arith, ap (λ n. n * e .x) z, ap (λ n. n * e .x) (w .tot));
-      eqy = omega (arith, ap (λ n. n * e .y) z, ap (λ n. n * e .y) (w .tot));
-    }

@@ -2,18 +2,17 @@
 -- The laws of steps 3 and 4 (A + B is even, nothing truncates) are in Places; columns in Moved and Columns.
 use Prim.Native.Nat.{ℕ, suc, pred, _+_, _*_, _<_, _≤_}
 use mathlib.Core.Path.{_≡_, ap}
-use mathlib.Core.Bool.{Bool, true, false}
-use mathlib.Core.List.{List, [], _∷_}
+use mathlib.Core.Bool.{Bool}
+use mathlib.Core.List.{List}
 use native.Mathlib.Omega.{arith}
 use lib.ListN.{length}
 use Rattle.rules.specs.declared.Entry.{Entry}
 use Rattle.rules.specs.declared.Bend.the-variants.{Left, Middle}
-use Rattle.rules.specs.Basics.{if_then_else_, keep}
 use Rattle.rules.specs.Refusals.{good}
-use Rattle.rules.specs.Points.{Drawing, xOf, yOf, dlOf, drOf, hOf, m, W, lineAt, start}
+use Rattle.rules.specs.Points.{Drawing, xOf, yOf, dlOf, hOf, m, W, lineAt, start}
 use Rattle.rules.specs.Ports.{bendPlace}
 use Rattle.rules.specs.Adding.{addEntries}
-use Rattle.net.specs.Side.{rt, lf}
+use Rattle.net.specs.Side.{lf}
 use Rattle.net.specs.Bend.{bend}
 use Rattle.net.specs.Frame.{Inside, point-in, spot-in}
 use Rattle.promise.specs.Promise.{IsLine}
@@ -23,7 +22,6 @@ use Rattle.promise.specs.Next.{next}
 use Rattle.promise.specs.Border.{m′}
 use Rattle.promise.specs.Opening.{sound-start}
 use Rattle.promise.specs.Accepted.{accepted}
-use Rattle.promise.specs.Degree.{degree-is}
 use Rattle.promise.specs.Spots.{spot-bend}
 use Rattle.promise.specs.Step.{sound-added}
 
@@ -70,14 +68,6 @@ standing-added d e es t h =
           });
     }
 
-length-keep : {A : Type 0} (t : A → Bool) (l : List A) → length (keep t l) ≤ length l
-length-keep t [] = omega arith
-length-keep t (a ∷ l) = go (t a) (length-keep t l)
-  where
-    go : (b : Bool) → length (keep t l) ≤ length l → length (if b then a ∷ keep t l else keep t l) ≤ suc (length l)
-    go true h = omega arith
-    go false h = omega arith
-
 module _ (d : Drawing) (t : Standing d) where
   -- W is below 5,112, so that eight times any place is below 65,536
   pub width-most : W d ≤ 5111
@@ -95,14 +85,6 @@ module _ (d : Drawing) (t : Standing d) where
   bend-most e el =
       let i : Inside (W d) (bendPlace d (lineAt d e)) = rw (spot-bend (t .sound) e el) at (spot-in (t .sound .inv) (t .sound .border) e el bend) in
       (omega (arith, i .b), i .y)
-
-  -- counts of ports, and the height of the middle row: at most the lines at the point
-  pub ports-most : (p : ℕ) → 0 < p → p ≤ d .k → (drOf d p < length (d .lines)) × (dlOf d p < length (d .lines)) × (2 * hOf d p ≤ length (d .lines))
-  ports-most p low high =
-      let q : pred p < d .k = omega arith in
-      let e = degree-is d (t .sound) p low in
-      let f = length-keep (Rattle.rules.specs.Demand.endsAt p) (d .lines) in
-      (omega (arith, t .sound .degs .sides rt (pred p) q), omega (arith, t .sound .degs .sides lf (pred p) q), omega (arith, t .sound .degs .depth (pred p) q))
 
   -- no subtraction of a left or middle port truncates
   pub left-exact : (e j : ℕ) → IsLine d e → lineAt d e .bend ≡ Left j → dlOf d (lineAt d e .earlier) + 1 ≤ xOf d (lineAt d e .earlier)

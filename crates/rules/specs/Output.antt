@@ -5,8 +5,7 @@ use lib.ListN.{length, take, drop}
 use lib.Dec.{ltb}
 use Rattle.rules.specs.declared.Refusal.the-variants.{OutputShort}
 use Rattle.rules.specs.Refusals.{Result, good, refused, number, _>>_, _>>=_, refuseIf}
-use Rattle.rules.specs.Points.{Drawing}
-use Rattle.rules.specs.DrawingFile.{writeDrawing, drawFile, orderBack}
+use Rattle.rules.specs.DrawingFile.{drawFile}
 
 -- the bytes that a call writes into a buffer of this length, or its refusal
 abbrev pub fitted : List ℕ → Result (List ℕ) → Result (List ℕ)
@@ -19,16 +18,6 @@ fitted buffer wanted = do
 abbrev pub filled : List ℕ → Result (List ℕ) → List ℕ
 filled buffer (good bytes) = bytes ++ drop (length bytes) buffer
 filled buffer (refused r p) = buffer
-
--- the calls that write: the drawing file of a drawing, of an order file; the order file of a drawing file
-abbrev pub drawingInto : Drawing → List ℕ → Result (List ℕ)
-drawingInto d buffer = fitted buffer (writeDrawing d)
-
-abbrev pub drawFileInto : List ℕ → List ℕ → Result (List ℕ)
-drawFileInto input buffer = fitted buffer (drawFile input)
-
-abbrev pub orderBackInto : List ℕ → List ℕ → Result (List ℕ)
-orderBackInto input buffer = fitted buffer (orderBack input)
 
 -- ---- "The drawing program reads an order file from standard input and writes the drawing, or the line `refused N at P`."
 

@@ -1,6 +1,6 @@
 -- What settling takes and gives.
 use Prim.Native.Nat.{ℕ, suc, _+_, _<_, _≤_}
-use mathlib.Core.Path.{_≡_, refl}
+use mathlib.Core.Path.{_≡_}
 use mathlib.Core.List.{List}
 use native.Mathlib.Omega.{arith}
 use lib.ListN.{length, take}
@@ -21,9 +21,6 @@ pub record Placed (d : Drawing) (next gap owners : List ℕ) (count : ℕ) : Typ
 -- The arrays that store a drawing have them, for the number of its points.
 pub placed-at : {d : Drawing} {a : Arrays} {c : Counts} {count : ℕ} → count ≡ d .k → Stores d a c → Placed d (a .next) (a .gap) (a .owner) count
 placed-at e s = record { k = e; owner = s .owner; link = s .link; last = s .last; step = s .step; hang = s .hang }
-
-pub placed-of : {d : Drawing} {a : Arrays} {c : Counts} → Stores d a c → Placed d (a .next) (a .gap) (a .owner) (d .k)
-placed-of s = placed-at refl s
 
 -- what settling asks: some sound drawing has these links, gaps and owners
 pub record Settleable (x next gap owner : List ℕ) (k : ℕ) : Type 0 where

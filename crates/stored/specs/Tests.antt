@@ -309,10 +309,3 @@ run-distinct {d} es {l} {r} s q = record { differ = differ }
           column-is (l + i) hi,
           column-is (l + j) hj,
         )
-
--- What the code needs of a call that passed.
-pub within : {d : Drawing} {a : Arrays} {c : Counts} → Stores d a c → Sound d → (es : List ℕ) → passes (a .owner) (a .next) (c .n) (c .k) (c .m) es ≡ good tt →
-    Within (c .k) es × Distinct es × (length es ≤ c .m)
-within {d} {a} {c} t s es h =
-    let q = five-passed d (map entryOf es) (sym (passes-is t s es) ∙ h) .run in
-    (rw (t .k) (run-within es s q), run-distinct es s q, omega (arith, run-size es q, q .rm, t .m))

@@ -2,7 +2,7 @@
 use Prim.Native.Nat.{_≤_}
 use borrow.Author.Needs.{needs}
 use Rattle.panel.specs.Outputs.{turned}
-use Rattle.panel.specs.Files.{lines-of}
+use Rattle.order_writer.specs.Writing.{lines-stored}
 use Rattle.panel.specs.Finishing.{early, late, whole-late, lined-late}
 use Rattle.panel.proofs.order_file.Statement.{statement}
 use Rattle.panel.proofs.order_file.Tie as tie
@@ -19,7 +19,7 @@ same-length c = search needs
 returns-2 : tie.Need-returns-2
 returns-2 c q r t =
     let h : c .before .before .before .before .before .before .before .before .before .before .before .before .args .d .counts .n ≤ c .before .before .before .before .before .before .before .before .before .before .before .before .args .d .counts .k = search needs in
-    rw (late t _ h) (c .before .before .put-order .ensures _ (whole-late t r h) (lines-of t))
+    rw (late t _ h) (c .before .before .put-order .ensures _ (whole-late t r h) (lines-stored (t .stores)))
 
 pub order-file-spec : {M : Type 1} → statement M
 order-file-spec = tie.close (tie.spec returns put-order-requires same-length returns-2)

@@ -2,7 +2,7 @@
 use mathlib.Core.Path.{refl, sym, _∙_}
 use borrow.Author.Needs.{needs}
 use Rattle.panel.specs.Outputs.{turned}
-use Rattle.panel.specs.Files.{lines-of}
+use Rattle.order_writer.specs.Writing.{lines-stored}
 use Rattle.panel.specs.Undrawing.{lines-ended, lines-refused, bytes-differ, bytes-same}
 use Rattle.panel.proofs.undraw.Statement.{statement}
 use Rattle.panel.proofs.undraw.Tie as tie
@@ -41,7 +41,7 @@ unfolding told
 put-order-requires c κs =
     let t = told (c .before .before .before .before .before .before) in
     let e = lines-ended _ (t .before .before .before .before .read-lines .ensures) (t .enum-told .given .1) in
-    record { d = e .d; whole = e .whole; stored = lines-of (e .holds) }
+    record { d = e .d; whole = e .whole; stored = lines-stored (e .holds .stores) }
 
 returns : tie.Need-returns
 returns c =
@@ -70,7 +70,7 @@ returns-3 c =
     let g = t .before .before .before .before .read-lines .ensures in
     let h = t .enum-told .given .1 in
     let e = lines-ended _ g h in
-    rw (bytes-same _ g h (sym (b .compare-drawing .ensures (e .d) (e .whole) (e .holds)) ∙ q .enum-told2 .given .1)) (p .put-order .ensures (e .d) (e .whole) (lines-of (e .holds)))
+    rw (bytes-same _ g h (sym (b .compare-drawing .ensures (e .d) (e .whole) (e .holds)) ∙ q .enum-told2 .given .1)) (p .put-order .ensures (e .d) (e .whole) (lines-stored (e .holds .stores)))
 
 pub undraw-spec : {M : Type 1} → statement M
 undraw-spec =
