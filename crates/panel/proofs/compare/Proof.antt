@@ -1,6 +1,7 @@
 -- `panel::compare` meets its contract. The loop's invariant: the answer is that of the bytes from i on.
 use Prim.Native.Nat.{_-_, _≤_}
-use mathlib.Core.Path.{_≡_, _∙_}
+use mathlib.Core.Path.{_≡_, refl, _∙_}
+use native.Mathlib.Omega.{arith}
 use lib.ListN.{length}
 use borrow.Author.Needs.{needs}
 use Rattle.rules.specs.DrawingFile.{compareBytes}
@@ -15,7 +16,7 @@ abbrev μ-loop : tie.MeasureT-loop
 μ-loop a b i₀ i = length a - i
 
 loop-holds : tie.Need-loop-holds Inv-loop μ-loop
-loop-holds c = search needs
+loop-holds c = (omega arith, refl)
 
 returns : tie.Need-returns Inv-loop μ-loop
 returns c = let l = c .before .before in rw (l .loop .inv .1, second-ended _ _ _ (c .before .loop-test .taken) (c .if1 .taken))
@@ -42,7 +43,7 @@ loop-again : tie.Need-loop-again Inv-loop μ-loop
 loop-again c =
     let l = c .before .before .before .before .before in
     let a = l .before .args in
-    (search needs, l .loop .inv .1 ∙ goes-on (a .a .now) (a .b .now) (l .loop .i) (search needs) (search needs) (c .if2 .left))
+    (omega (arith, c .before .before .before .before .loop-test .taken), l .loop .inv .1 ∙ goes-on (a .a .now) (a .b .now) (l .loop .i) (search needs) (search needs) (c .if2 .left))
 
 returns-3 : tie.Need-returns-3 Inv-loop μ-loop
 returns-3 c =
