@@ -44,7 +44,7 @@ mean-up f p q r s w = omega (arith, ap (λ n. f .au * n) (w .eqx), ap (λ n. f .
 mean-dn : (f : Fun) (p q r s : Place) (w : Common p q r s) → w .A * dn f p + w .B * dn f q ≡ w .C * dn f r + w .D * dn f s
 mean-dn f p q r s w = omega (arith, ap (λ n. f .av * n) (w .eqx), ap (λ n. f .bv * n) (w .eqy))
 
--- L1. Both of p and q are below both of r and s: no point in common, and the test says so.
+-- Both of p and q are below both of r and s: no point in common, and the test says so.
 pub no-common : (f : Fun) (p q r s : Place) → Lt f p r → Lt f p s → Lt f q r → Lt f q s → Common p q r s → ⊥
 no-common f p q r s h₁ h₂ h₃ h₄ w =
     elim (decLe (up f p + dn f q) (up f q + dn f p)) [
@@ -77,7 +77,7 @@ fa = record { au = 1; bu = 0; av = 0; bv = 1 }
 abbrev pub fb : Fun
 fb = record { au = 1; bu = 1; av = 0; bv = 0 }
 
--- L2. A common point is at a place e.
+-- A common point is at a place e.
 pub record At (e : Place) {p q r s : Place} (w : Common p q r s) : Type 0 where
   pub atx : w .A * p .x + w .B * q .x ≡ (w .A + w .B) * e .x
   pub aty : w .A * p .y + w .B * q .y ≡ (w .A + w .B) * e .y

@@ -1,4 +1,4 @@
--- L3. A boundary whose x - y and x + y grow between neighbours: they grow by at least the distance in the list.
+-- A boundary whose x - y and x + y grow between neighbours: they grow by at least the distance in the list.
 use Prim.Native.Nat.{ℕ, zero, suc, pred, _+_, _<_, _≤_}
 use native.Mathlib.Omega.{arith}
 use native.Mathlib.Nat.{not-suc-le-zero}
