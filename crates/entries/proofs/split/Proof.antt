@@ -20,7 +20,7 @@ point-of-requires : tie.Need-point-of-requires
 point-of-requires c κs = search needs
 
 returns : tie.Need-returns
-returns c = rw (c .point-of .ensures, top-bit (c .before .args .e))
+returns c = λ i. record { point = c .point-of .ensures i; cut = top-bit (c .before .args .e) i }
 
 pub split-spec : {M : Type 1} → statement M
 split-spec = tie.close (tie.spec point-of-requires returns)

@@ -1,5 +1,6 @@
 -- `order_writer::put_head` meets its contract: the scale is written where it is not 1.
 use Prim.Native.Nat.{_≤_}
+use mathlib.Core.Path.{_≡_}
 use native.Mathlib.Omega.{arith}
 use lib.ListN.{length}
 use borrow.Author.Tests.{eq-eqb, ne-eqb}
@@ -15,7 +16,10 @@ same-length : tie.Need-same-length
 same-length c = search needs
 
 returns : tie.Need-returns
-returns c = rw (eq-eqb _ _ (c .if1 .taken)) (c .before .before .before .put-two .ensures)
+returns c =
+    let p = c .before .before .before in
+    let one : p .before .before .before .args .s ≡ 1 = c .if1 .taken in
+    rw (eq-eqb _ _ one) (p .put-two .ensures)
 
 put-two-requires-2 : tie.Need-put-two-requires-2
 put-two-requires-2 c κs =

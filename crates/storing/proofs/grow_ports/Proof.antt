@@ -1,10 +1,12 @@
 -- `storing::grow_ports` meets its contract: the count is read before anything is stored.
-use Prim.Native.Nat.{suc, _+_}
-use mathlib.Core.Path.{_≡_, _∙_}
+use Prim.Native.Nat.{ℕ, suc, _+_}
+use mathlib.Core.Path.{_≡_, ap₂, _∙_}
+use mathlib.Core.List.{List}
 use native.Mathlib.Numerals.{add-one, sub-one}
 use native.Mathlib.Omega.{arith}
 use borrow.Author.Needs.{needs}
 use Rattle.links.specs.Arrays.{atPoint}
+use Rattle.links.specs.Storing.{putAt}
 use Rattle.storing.proofs.grow_ports.Statement.{statement}
 use Rattle.storing.proofs.grow_ports.Tie as tie
 
@@ -39,7 +41,8 @@ put-requires-2 c κs =
 returns : tie.Need-returns
 returns c =
     let a = c .before .before .before .before in
-    (c .put2 .ensures ∙ rw (c .before .before .put .ensures, one-more a), one-more a)
+    let w = a .before .before .args .w in
+    (c .put2 .ensures ∙ ap₂ (λ (l : List ℕ) (i : ℕ). putAt l w i) (c .before .before .put .ensures) (one-more a), one-more a)
 
 pub grow-ports-spec : {M : Type 1} → statement M
 grow-ports-spec =
