@@ -1,4 +1,5 @@
 // One adding call on the lent arrays: tested, placed, stored. Work for its run and its lines, and nothing else.
+// For the crates above: it asks for the arrays of a drawing, which they have.
 use links::Added;
 use links::Counts;
 use links::Spot;

@@ -1,4 +1,5 @@
 // A drawing file's records, read into the arrays of a drawing. Comparing its bytes with the drawing's, 11, is left to the caller.
+// For `panel`: it asks for arrays of zeros, and for room for the entries of one point.
 use drawing_judging::judge_file;
 use line_records::entry_at;
 use line_records::take_group;

@@ -1,4 +1,5 @@
 // Writes the drawing file of a finished drawing from the lent arrays and its settled x.
+// For `panel`: it asks for a finished drawing and room in the buffer, which are tested there.
 use bends::bend_from;
 use entries::split;
 use links::Counts;

@@ -1,4 +1,5 @@
 // An entry as its 16-bit number: split by mask and shift, put together by shift and or.
+// `join` asks for a point below 32,768, which its callers have.
 use rules::Entry;
 ghost use mathlib.Core.Path.{_≡_};
 ghost use Prim.Native.Nat.{_<_};

@@ -1,4 +1,5 @@
 // The programs' work: reads a file, writes what the panel makes of it or the line of its refusal.
+// No `ensures`: the kit's `io` has no contract for what reaches standard output. `cases` tests it.
 use libc::STDOUT_FILENO;
 use panel::Written;
 use rules::Refusal;

@@ -1,4 +1,5 @@
 // The tests of an adding call that need no new places, on the stored owners and links: 21, 5, then entry by entry 6 before 7, then 8, 9.
+// For `adding`, which has the arrays of full length that are asked for.
 use entries::point_of;
 use links::Counts;
 use rules::Answer;

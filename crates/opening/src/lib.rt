@@ -1,4 +1,5 @@
 // Opening a drawing in the ten lent arrays, for a call and for an order file alike.
+// For the crates above: it asks for arrays of zeros.
 ghost use mathlib.Core.Path.{_≡_};
 ghost use lib.ListN.{set};
 ghost use Rattle.links.specs.Arrays.{arraysOf};

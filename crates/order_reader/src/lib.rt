@@ -1,4 +1,5 @@
 // Reads an order file into the ten lent arrays, record by record; the first refusal is the answer.
+// For `panel`: it asks for arrays of zeros, and for room for the entries of one record.
 use links::Added;
 use links::Counts;
 use order_start::Head;

@@ -1,4 +1,5 @@
 // The beginning of an order file: the header, the scale, and the records of points 1 to 3.
+// For `order_reader`: it asks that the offset lies in the file, and for room for the entries of one record.
 use entries::point_of;
 use records::Entries;
 use records::Number;

@@ -1,4 +1,5 @@
 // The order writer: the order file of a finished drawing, in one pass over its stored lines.
+// For `panel`: it asks for a finished drawing and room in the buffer, which are tested there.
 use links::Counts;
 ghost use mathlib.Core.Path.{_≡_};
 ghost use Prim.Native.Nat.{_+_, _-_, _*_, _<_, _≤_};

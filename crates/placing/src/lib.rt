@@ -1,5 +1,6 @@
 // Steps 1 to 5 of an adding call, by distances from wl: where the new point goes, and which ports reach the inner points.
 // Every function reads, none stores.
+// For `adding`: they ask for entries that passed the tests, and for numbers that fit.
 use links::Spot;
 ghost use mathlib.Core.Path.{_≡_};
 ghost use mathlib.Core.Bool.{_||_};

@@ -1,4 +1,5 @@
 // The x of every placed point, from links and gaps, and the place where a line bends.
+// For the crates above: it asks for the arrays of a drawing, which they have.
 use rules::Bend;
 use rules::Place;
 use words::broad;

@@ -1,4 +1,5 @@
 // What an accepted adding call stores into the ten lent arrays.
+// For `adding`: it asks for entries that passed the tests, and for the new point's place.
 use links::Counts;
 use links::Spot;
 use words::broad;

@@ -98,6 +98,7 @@ fn cut_to(s: usize, p: Place, pitch: u32) -> Move
 }
 
 // Move `which`, from 0, of the five of a line from its later point over the bend to its earlier point.
+// For `cutter`: it asks for places on the grid and numbers in range, which are tested or proved there.
 pub fn line_move(
     which: usize,
     s: usize,

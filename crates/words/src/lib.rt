@@ -1,4 +1,5 @@
 // 16-bit numbers: widened to compute with, narrowed to store, and in byte slices, high byte first.
+// The functions ask that a number fits and that an offset lies in the slice; the crates above have tested it.
 ghost use mathlib.Core.Path.{_≡_};
 ghost use Prim.Native.Nat.{_+_, _<_};
 ghost use lib.ListN.{length};
