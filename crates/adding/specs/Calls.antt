@@ -7,9 +7,8 @@ use Rattle.rules.specs.Refusals.{answer}
 use Rattle.rules.specs.Points.{Drawing}
 use Rattle.links.specs.declared.Added.{Added}
 use Rattle.links.specs.declared.Counts.{Counts}
-use Rattle.links.specs.declared.Spot.{Spot}
 use Rattle.links.specs.Arrays.{Arrays, atPoint}
-use Rattle.links.specs.Placing.{entryPoint, way, spotOf}
+use Rattle.links.specs.Placing.{entryPoint, way}
 use Rattle.links.specs.Runs.{Within}
 use Rattle.links.specs.Storing.{judged, arraysAfter, countsAfter}
 use Rattle.stored.specs.Adding.{Holds}
@@ -25,21 +24,11 @@ pub record Answered (a : Arrays) (c : Counts) (es : List ℕ) (a′ : Arrays) (r
   pub arrays : a′ ≡ arraysAfter (judged a c es) a c es
   pub counts : r .counts ≡ countsAfter (judged a c es) c es
 
--- the spot of the new point, from the arrays that it is read off
-unfoldable pub spotOver : List ℕ → List ℕ → List ℕ → List ℕ → List ℕ → Spot
-spotOver es gap ys dls drs =
-    spotOf (way gap es (length es - 1)) (atPoint ys (entryPoint es 0)) (atPoint ys (entryPoint es (length es - 1)))
-    (atPoint drs (entryPoint es 0)) (atPoint dls (entryPoint es (length es - 1))) (length es)
-
 -- the entries are a run, whose ends rise less than they lie apart
-pub record Runs (es gap ys dls drs : List ℕ) : Type 0 where
+pub record Runs (es : List ℕ) (a : Arrays) : Type 0 where
   pub some : 1 < length es
   pub most : length es ≤ 1024
   pub within : Within 1024 es
-  pub gap-long : length gap ≡ 1024
-  pub ys-long : length ys ≡ 1024
-  pub dls-long : length dls ≡ 1024
-  pub drs-long : length drs ≡ 1024
-  pub far : way gap es (length es - 1) < 4294967296
-  pub rise-l : atPoint ys (entryPoint es 0) ≤ way gap es (length es - 1) + atPoint ys (entryPoint es (length es - 1))
-  pub rise-r : atPoint ys (entryPoint es (length es - 1)) ≤ way gap es (length es - 1) + atPoint ys (entryPoint es 0)
+  pub far : way (a .gap) es (length es - 1) < 4294967296
+  pub rise-l : atPoint (a .ys) (entryPoint es 0) ≤ way (a .gap) es (length es - 1) + atPoint (a .ys) (entryPoint es (length es - 1))
+  pub rise-r : atPoint (a .ys) (entryPoint es (length es - 1)) ≤ way (a .gap) es (length es - 1) + atPoint (a .ys) (entryPoint es 0)

@@ -77,16 +77,12 @@ module _ {a : Arrays} {c : Counts} {es : List ℕ} (p : Passing a c es) where
   most = omega (arith, p .fits, p .border)
 
   -- what spot_over asks
-  pub runs : Runs es (a .gap) (a .ys) (a .dls) (a .drs)
+  pub runs : Runs es a
   runs =
       record {
         some = p .some;
         most = most;
         within = all-within;
-        gap-long = p .sized .gap;
-        ys-long = p .sized .ys;
-        dls-long = p .sized .dls;
-        drs-long = p .sized .drs;
         far = omega (arith, p .bounded .way (length es - 1) (omega (arith, p .some)), p .room);
         rise-l = omega (arith, p .bounded .rise-l);
         rise-r = omega (arith, p .bounded .rise-r);

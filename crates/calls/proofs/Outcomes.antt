@@ -17,7 +17,7 @@ use Rattle.stored.specs.Opened.{sized-open, stores-open}
 use Rattle.drawing.specs.declared.Drawing.{Drawing}
 use Rattle.drawing.specs.declared.Done.{Done}
 use Rattle.drawing.specs.Opens.{blank}
-use Rattle.drawing.specs.View.{arraysIn}
+use Rattle.tables.specs.Tables.{arraysIn}
 use Rattle.calls.specs.Lists.{callsIn}
 use Rattle.calls.specs.Turns.{Begun, Ended, Runs}
 use Rattle.calls.specs.Ran.{Refuses, Ran}
@@ -54,7 +54,7 @@ module _ {n : ℕ} {ws before : List ℕ} {r : Done} where
       }
 
 -- Every call was made.
-pub accepted : {n : ℕ} {ws before after : List ℕ} {d : Drawing} → Runs n ws before → Ended n ws before (arraysIn d) (d .counts) after →
+pub accepted : {n : ℕ} {ws before after : List ℕ} {d : Drawing} → Runs n ws before → Ended n ws before (arraysIn (d .table)) (d .counts) after →
     Ran n ws before after (record { answer = Accepted; drawing = d })
 accepted {n} {ws} h e =
     record {

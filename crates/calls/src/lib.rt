@@ -7,9 +7,7 @@ use rules::Refusal;
 ghost use mathlib.Core.Path.{_≡_};
 ghost use Prim.Native.Nat.{_+_, _<_};
 ghost use lib.ListN.{length, set};
-ghost use Rattle.links.specs.Arrays.{arraysOf};
-ghost use Rattle.opening.specs.Zeros.{Zeros};
-ghost use Rattle.drawing.specs.View.{arraysIn};
+ghost use Rattle.tables.specs.Tables.{arraysIn};
 ghost use Rattle.drawing.specs.Opens.{blank};
 ghost use Rattle.calls.specs.Lists.{callsIn, placeIn, withAnswer};
 ghost use Rattle.calls.specs.Turns.{endOf, Callable, Made, Begun, Ended, Runs};
@@ -67,76 +65,28 @@ fn put_answer(out: &mut [u16], at: usize, a: Answer)
     }
 }
 
-// One call on the lent arrays, with its answer at `at` of the buffer; gives the numbers after it.
+// One call on the lent table, with its answer at `at` of the buffer; gives the numbers after it.
 fn one_call(
-    next: &mut [u16; 1024],
-    gap: &mut [u16; 1024],
-    owner: &mut [u16; 1024],
-    ys: &mut [u16; 1024],
-    dls: &mut [u16; 1024],
-    drs: &mut [u16; 1024],
-    hs: &mut [u16; 1024],
-    words: &mut [u16; 3072],
-    later: &mut [u16; 3072],
-    bends: &mut [u16; 3072],
+    table: &mut [u16; 16384],
     c: Counts,
     e: &[u16],
     answers: &mut [u16],
     at: usize,
 ) -> Counts
-    requires { ⌜ Callable (arraysOf (now next) (now gap) (now owner) (now ys) (now dls) (now drs) (now hs) (now words) (now later) (now bends)) c (now e) (now answers) at ⌝ }
-    ensures { λ r. ⌜
-        Made (arraysOf (now (next .entry)) (now (gap .entry)) (now (owner .entry)) (now (ys .entry)) (now (dls .entry)) (now (drs .entry)) (now (hs .entry)) (now (words .entry)) (now (later .entry)) (now (bends .entry)))
-        c (now (e .entry)) (now (answers .entry)) at
-        (arraysOf (now (next .exit)) (now (gap .exit)) (now (owner .exit)) (now (ys .exit)) (now (dls .exit)) (now (drs .exit)) (now (hs .exit)) (now (words .exit)) (now (later .exit)) (now (bends .exit)))
-        r (now (answers .exit))
-        ⌝ }
+    requires { ⌜ Callable (arraysIn (now table)) c (now e) (now answers) at ⌝ }
+    ensures { λ r. ⌜ Made (arraysIn (now (table .entry))) c (now (e .entry)) (now (answers .entry)) at (arraysIn (now (table .exit))) r (now (answers .exit)) ⌝ }
 {
-    let added = adding::add(
-        next,
-        gap,
-        owner,
-        ys,
-        dls,
-        drs,
-        hs,
-        words,
-        later,
-        bends,
-        c,
-        e,
-    );
+    let added = adding::add(table, c, e);
     let answer = added.answer;
     let numbers = added.counts;
     put_answer(answers, at, answer);
     numbers
 }
 
-// All calls on the lent arrays, from the drawing as opened, with their answers in the buffer; gives the numbers after them.
-fn all_calls(
-    next: &mut [u16; 1024],
-    gap: &mut [u16; 1024],
-    owner: &mut [u16; 1024],
-    ys: &mut [u16; 1024],
-    dls: &mut [u16; 1024],
-    drs: &mut [u16; 1024],
-    hs: &mut [u16; 1024],
-    words: &mut [u16; 3072],
-    later: &mut [u16; 3072],
-    bends: &mut [u16; 3072],
-    opened: Counts,
-    calls: &[u16],
-    answers: &mut [u16],
-) -> Counts
-    requires { ⌜
-        Begun (opened .n) (now calls) (now answers)
-        (arraysOf (now next) (now gap) (now owner) (now ys) (now dls) (now drs) (now hs) (now words) (now later) (now bends)) opened
-        ⌝ }
-    ensures { λ r. ⌜
-        Ended (opened .n) (now (calls .entry)) (now (answers .entry))
-        (arraysOf (now (next .exit)) (now (gap .exit)) (now (owner .exit)) (now (ys .exit)) (now (dls .exit)) (now (drs .exit)) (now (hs .exit)) (now (words .exit)) (now (later .exit)) (now (bends .exit)))
-        r (now (answers .exit))
-        ⌝ }
+// All calls on the lent table, from the drawing as opened, with their answers in the buffer; gives the numbers after them.
+fn all_calls(table: &mut [u16; 16384], opened: Counts, calls: &[u16], answers: &mut [u16]) -> Counts
+    requires { ⌜ Begun (opened .n) (now calls) (now answers) (arraysIn (now table)) opened ⌝ }
+    ensures { λ r. ⌜ Ended (opened .n) (now (calls .entry)) (now (answers .entry)) (arraysIn (now (table .exit))) r (now (answers .exit)) ⌝ }
 {
     let mut counts = opened;
     let mut told = 0;
@@ -145,67 +95,20 @@ fn all_calls(
         let from = at + 1;
         let end = end_of(calls, at);
         let e = &calls[from..end];
-        counts = one_call(
-            next,
-            gap,
-            owner,
-            ys,
-            dls,
-            drs,
-            hs,
-            words,
-            later,
-            bends,
-            counts,
-            e,
-            answers,
-            told,
-        );
+        counts = one_call(table, counts, e, answers, told);
         told += 2;
         at = end;
     }
     counts
 }
 
-// Opens a drawing for n points in the lent arrays and makes all calls; gives the numbers after them.
-fn draw_in(
-    next: &mut [u16; 1024],
-    gap: &mut [u16; 1024],
-    owner: &mut [u16; 1024],
-    ys: &mut [u16; 1024],
-    dls: &mut [u16; 1024],
-    drs: &mut [u16; 1024],
-    hs: &mut [u16; 1024],
-    words: &mut [u16; 3072],
-    later: &mut [u16; 3072],
-    bends: &mut [u16; 3072],
-    n: usize,
-    calls: &[u16],
-    answers: &mut [u16],
-) -> Counts
-    requires zeros { ⌜ Zeros (arraysOf (now next) (now gap) (now owner) (now ys) (now dls) (now drs) (now hs) (now words) (now later) (now bends)) ⌝ }
-    requires runs { ⌜ Runs n (now calls) (now answers) ⌝ }
-    ensures { λ r. ⌜
-        Ended n (now (calls .entry)) (now (answers .entry))
-        (arraysOf (now (next .exit)) (now (gap .exit)) (now (owner .exit)) (now (ys .exit)) (now (dls .exit)) (now (drs .exit)) (now (hs .exit)) (now (words .exit)) (now (later .exit)) (now (bends .exit)))
-        r (now (answers .exit))
-        ⌝ }
+// Opens a drawing for n points and makes all calls on it, with their answers in the buffer.
+fn draw_calls(n: usize, calls: &[u16], answers: &mut [u16]) -> Drawing
+    requires { ⌜ Runs n (now calls) (now answers) ⌝ }
+    ensures { λ r. ⌜ Ended n (now (calls .entry)) (now (answers .entry)) (arraysIn (r .table)) (r .counts) (now (answers .exit)) ⌝ }
 {
-    opening::open_in(
-        next,
-        gap,
-        owner,
-        ys,
-        dls,
-        drs,
-        hs,
-        words,
-        later,
-        bends,
-        1,
-        1,
-        2,
-    );
+    let mut table = [0u16; 16384];
+    opening::open_in(&mut table, 1, 1, 2);
     let opened = Counts {
         n,
         s: 1,
@@ -213,66 +116,8 @@ fn draw_in(
         m: 3,
         lines: 3,
     };
-    all_calls(
-        next,
-        gap,
-        owner,
-        ys,
-        dls,
-        drs,
-        hs,
-        words,
-        later,
-        bends,
-        opened,
-        calls,
-        answers,
-    )
-}
-
-// The same in arrays of its own, which become the drawing.
-fn draw_calls(n: usize, calls: &[u16], answers: &mut [u16]) -> Drawing
-    requires { ⌜ Runs n (now calls) (now answers) ⌝ }
-    ensures { λ r. ⌜ Ended n (now (calls .entry)) (now (answers .entry)) (arraysIn r) (r .counts) (now (answers .exit)) ⌝ }
-{
-    let mut next = [0u16; 1024];
-    let mut gap = [0u16; 1024];
-    let mut owner = [0u16; 1024];
-    let mut ys = [0u16; 1024];
-    let mut dls = [0u16; 1024];
-    let mut drs = [0u16; 1024];
-    let mut hs = [0u16; 1024];
-    let mut words = [0u16; 3072];
-    let mut later = [0u16; 3072];
-    let mut bends = [0u16; 3072];
-    let counts = draw_in(
-        &mut next,
-        &mut gap,
-        &mut owner,
-        &mut ys,
-        &mut dls,
-        &mut drs,
-        &mut hs,
-        &mut words,
-        &mut later,
-        &mut bends,
-        n,
-        calls,
-        answers,
-    );
-    Drawing {
-        counts,
-        next,
-        gap,
-        owner,
-        ys,
-        dls,
-        drs,
-        hs,
-        words,
-        later,
-        bends,
-    }
+    let counts = all_calls(&mut table, opened, calls, answers);
+    Drawing { counts, table }
 }
 
 // A refusal: no drawing, every number 0.

@@ -21,7 +21,7 @@ use Rattle.drawing.specs.declared.LineSeen.the-variants as Line
 use Rattle.drawing.specs.declared.PointSeen.{PointSeen}
 use Rattle.drawing.specs.declared.PointSeen.the-variants as Point
 use Rattle.drawing.specs.View.{Came, pointSeen, lineSeen}
-use Rattle.drawing.specs.Lines.{earlier-some, earlier-placed, later-some, later-placed}
+use Rattle.bends.specs.Lines.{ends}
 
 -- A drawing that came from calls or an order file has a scale from 1 to 8.
 pub scale : {d : Drawing} → Came d → (1 ≤ d .counts .s) × (d .counts .s ≤ 8)
@@ -57,10 +57,10 @@ module _ {q : Plan} {a : Arrays} {c : Counts} (h : Holds q a c) where
 
     -- Its ends are points.
     pub later-there : (1 ≤ lineAt q e .later) × (lineAt q e .later ≤ c .k)
-    later-there = (later-some h e el, omega (arith, later-placed h e el, h .stores .k))
+    later-there = let p = ends (h .standing) e el in (p .0, omega (arith, p .1, h .stores .k))
 
     pub earlier-there : (1 ≤ lineAt q e .earlier) × (lineAt q e .earlier ≤ c .k)
-    earlier-there = (earlier-some h e el, omega (arith, earlier-placed h e el, h .stores .k))
+    earlier-there = let p = ends (h .standing) e el in (p .2, omega (arith, p .3, h .stores .k))
 
     -- A line that is there is seen, with its bend.
     module _ (r : LineSeen) (is : r ≡ lineSeen (lookLine q e)) where

@@ -5,16 +5,18 @@ use drawing::Placed;
 use drawing::PointSeen;
 use rules::Place;
 use rules::Refusal;
+use tables::WORDS;
 use tool::Checked;
 use tool::Move;
 use tool::Numbers;
 use tool::Tool;
 ghost use mathlib.Core.Path.{_≡_};
 ghost use Prim.Native.Nat.{_<_, _≤_};
-ghost use lib.ListN.{length, getD};
+ghost use lib.ListN.{getD};
 ghost use Rattle.rules.specs.Entries.{entryOf};
 ghost use Rattle.rules.specs.Points.{Drawing as Plan, placeOf, lineAt};
 ghost use Rattle.rules.specs.Moves.{Tool as WholeTool, lift, moveAt};
+ghost use Rattle.tables.specs.Tables.{arraysIn};
 ghost use Rattle.tool.specs.Checking.{wholeTool, toolOf, InRange};
 ghost use Rattle.drawing.specs.View.{Is, Came};
 ghost use Rattle.drawing.specs.Places.{IsPlaced};
@@ -43,14 +45,14 @@ fn is_cut(word: u16) -> bool
 }
 
 // The number of the j-th cut line, from 0, or the number of lines where there is none.
-fn nth_cut(words: &[u16; 3072], lines: usize, j: usize) -> usize
-    requires { ⌜ (length (now words) ≡ 3072) × (lines ≤ 3072) ⌝ }
-    ensures { λ r. ⌜ NthCut (now (words .entry)) lines j r ⌝ }
+fn nth_cut(table: &[u16; 16384], lines: usize, j: usize) -> usize
+    requires { ⌜ lines ≤ 3072 ⌝ }
+    ensures { λ r. ⌜ NthCut (arraysIn (now (table .entry)) .words) lines j r ⌝ }
 {
     let mut seen = 0;
     let mut e = 0;
     while e < lines {
-        if is_cut(words[e]) {
+        if is_cut(table[WORDS + e]) {
             if seen == j {
                 return e;
             }
@@ -62,14 +64,14 @@ fn nth_cut(words: &[u16; 3072], lines: usize, j: usize) -> usize
 }
 
 // How many of the lines are cut.
-fn cut_count(words: &[u16; 3072], lines: usize) -> usize
-    requires { ⌜ (length (now words) ≡ 3072) × (lines ≤ 3072) ⌝ }
-    ensures { λ r. ⌜ (r ≡ cutsTo (now (words .entry)) lines) × (r ≤ lines) ⌝ }
+fn cut_count(table: &[u16; 16384], lines: usize) -> usize
+    requires { ⌜ lines ≤ 3072 ⌝ }
+    ensures { λ r. ⌜ (r ≡ cutsTo (arraysIn (now (table .entry)) .words) lines) × (r ≤ lines) ⌝ }
 {
     let mut count = 0;
     let mut i = 0;
     while i < lines {
-        if is_cut(words[i]) {
+        if is_cut(table[WORDS + i]) {
             count += 1;
         }
         i += 1;
@@ -115,8 +117,7 @@ pub fn move_at(v: Placed, t: Tool, number: usize) -> Moved
     if c.k < c.n {
         return Moved::Refused(Refusal::Unfinished, 0);
     }
-    let words = d.words;
-    let e = nth_cut(&words, c.lines, number / 5);
+    let e = nth_cut(&d.table, c.lines, number / 5);
     if c.lines <= e {
         return Moved::Refused(Refusal::NoSuch, 0);
     }
@@ -132,6 +133,5 @@ pub fn move_count(d: Drawing) -> Counted
     if c.k < c.n {
         return Counted::Refused(Refusal::Unfinished, 0);
     }
-    let words = d.words;
-    Counted::Moves(5 * cut_count(&words, c.lines))
+    Counted::Moves(5 * cut_count(&d.table, c.lines))
 }

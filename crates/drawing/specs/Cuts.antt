@@ -2,7 +2,6 @@
 use Prim.Native.Nat.{ℕ, _<_, _≤_}
 use mathlib.Core.Path.{_≡_, refl, sym, ap, _∙_}
 use mathlib.Core.Bool.{Bool, true, false, _&&_, _||_}
-use mathlib.Core.List.{List}
 use native.Mathlib.Omega.{arith}
 use lib.ListN.{length, getD}
 use lib.Dec.{eqb}
@@ -37,24 +36,24 @@ module _ (x : Entry) (later p : ℕ) where
   cut-guide a = rw a
 
 -- line e of the arrays is
-unfoldable pub cutAt : List ℕ → List ℕ → ℕ → ℕ → Bool
-cutAt words later p e = cutTo (entryOf (getD words e 0)) (getD later e 0) p
+unfoldable pub cutAt : Arrays → ℕ → ℕ → Bool
+cutAt a p e = cutTo (entryOf (getD (a .words) e 0)) (getD (a .later) e 0) p
 
 -- r is the first such line of `lines` lines, or `lines` where there is none
-pub record FirstCut (words later : List ℕ) (lines p r : ℕ) : Type 0 where
+pub record FirstCut (a : Arrays) (lines p r : ℕ) : Type 0 where
   pub within : r ≤ lines
-  pub before : (e : ℕ) → e < r → cutAt words later p e ≡ false
-  pub found : r < lines → cutAt words later p r ≡ true
+  pub before : (e : ℕ) → e < r → cutAt a p e ≡ false
+  pub found : r < lines → cutAt a p r ≡ true
 
 module _ {q : Plan} {a : Arrays} {c : Counts} (h : Holds q a c) (p : ℕ) where
   -- The test on the arrays is the rules' on the drawing.
-  cut-is : (e : ℕ) → e < length (q .lines) → cutAt (a .words) (a .later) p e ≡ (lineAt q e .cut && endsAt p (lineAt q e))
+  cut-is : (e : ℕ) → e < length (q .lines) → cutAt a p e ≡ (lineAt q e .cut && endsAt p (lineAt q e))
   unfolding cutAt
   cut-is e el =
       let t = h .stores .entry e el in
       rw (h .stores .later e el, ap (λ (x : Entry). x .point) t, ap (λ (x : Entry). x .cut) t)
 
-  module _ (r : ℕ) (f : FirstCut (a .words) (a .later) (c .lines) p r) (is : between 1 (c .k) p ≡ true) where
+  module _ (r : ℕ) (f : FirstCut a (c .lines) p r) (is : between 1 (c .k) p ≡ true) where
     point-there : between 1 (q .k) p ≡ true
     point-there = rw (h .stores .k) at is
 
@@ -71,8 +70,8 @@ module _ {q : Plan} {a : Arrays} {c : Counts} (h : Holds q a c) (p : ℕ) where
       where
         none : (e : ℕ) → CutLineAt q p e → ⊥
         none e t =
-            let z : cutAt (a .words) (a .later) p e ≡ false = f .before e (omega (arith, t .there, h .stores .lines)) in
-            let y : cutAt (a .words) (a .later) p e ≡ true = cut-is e (t .there) ∙ rw (t .isCut, t .ends) in
+            let z : cutAt a p e ≡ false = f .before e (omega (arith, t .there, h .stores .lines)) in
+            let y : cutAt a p e ≡ true = cut-is e (t .there) ∙ rw (t .isCut, t .ends) in
             let x : _≡_ {A = ℕ} 0 1 = cc in
             omega arith
 

@@ -3,4 +3,5 @@ pub mod Opens
 pub mod Places
 pub mod Lines
 pub mod Cuts
+pub mod Whole
 pub mod Adds

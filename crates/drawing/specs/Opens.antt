@@ -9,9 +9,9 @@ use Rattle.rules.specs.declared.Refusal.the-variants.{OutOfRange}
 use Rattle.rules.specs.Basics.{between}
 use Rattle.rules.specs.Refusals.{Result, good, refused, answer}
 use Rattle.rules.specs.Points.{Drawing as Plan, opening, opened}
-use Rattle.links.specs.declared.Counts.{Counts}
-use Rattle.links.specs.Arrays.{Arrays}
-use Rattle.links.specs.Opening.{noPoints, noLines, openArrays, openCounts}
+use Rattle.links.specs.Opening.{openArrays, openCounts}
+use Rattle.tables.specs.Tables.{arraysIn}
+use Rattle.opening.specs.Zeros.{zeros}
 use Rattle.promise.specs.Bounds.{standing-start}
 use Rattle.exchange.specs.Reaching.{reached-opening}
 use Rattle.stored.specs.Opened.{sized-open, stores-open}
@@ -21,20 +21,7 @@ use Rattle.drawing.specs.View.{Is, Came}
 
 -- a drawing whose numbers are all 0
 unfoldable pub blank : Drawing
-blank =
-    record {
-      counts = record { n = 0; s = 0; k = 0; m = 0; lines = 0 };
-      next = noPoints;
-      gap = noPoints;
-      owner = noPoints;
-      ys = noPoints;
-      dls = noPoints;
-      drs = noPoints;
-      hs = noPoints;
-      words = noLines;
-      later = noLines;
-      bends = noLines;
-    }
+blank = record { counts = record { n = 0; s = 0; k = 0; m = 0; lines = 0 }; table = zeros }
 
 -- the drawing that goes with what the rules give
 abbrev pub DrawingOf : Result Plan → Drawing → Type 0
@@ -68,42 +55,23 @@ module _ (n : ℕ) {d : Drawing} (q : d ≡ blank) where
   pub refuses-many : 3 ≤ n → 1024 < n → Opens n (record { answer = Refused OutOfRange 0; drawing = d })
   refuses-many l h = refuses (rw (le-leb 3 n l, lt-leb n 1024 h))
 
--- the drawing of these arrays and numbers
-abbrev pub drawingOf : Arrays → Counts → Drawing
-drawingOf a c =
-    record {
-      counts = c;
-      next = a .next;
-      gap = a .gap;
-      owner = a .owner;
-      ys = a .ys;
-      dls = a .dls;
-      drs = a .drs;
-      hs = a .hs;
-      words = a .words;
-      later = a .later;
-      bends = a .bends;
-    }
+-- d is the drawing as the program opens it: all three lines are cut
+pub record OpenFor (n : ℕ) (d : Drawing) : Type 0 where
+  pub arrays : arraysIn (d .table) ≡ openArrays 1 1 2
+  pub counts : d .counts ≡ openCounts n 1
 
--- The drawing as the program opens it: all three lines are cut.
-unfoldable pub openDrawing : ℕ → Drawing
-openDrawing n = drawingOf (openArrays 1 1 2) (openCounts n 1)
-
-module _ (n : ℕ) (low : 3 ≤ n) (high : n ≤ 1024) where
-  pub open-is : Is (opening n) (openDrawing n)
-  unfolding openDrawing
+module _ (n : ℕ) (low : 3 ≤ n) (high : n ≤ 1024) {d : Drawing} (o : OpenFor n d) where
+  open-is : Is (opening n) d
   open-is =
-      record {
+      rw (o .arrays, o .counts)
+      (record {
         standing = standing-start n 1 true true true low high;
         sized = sized-open n 1 true true true 1 1 2;
         stores = stores-open n 1 true true true 1 1 2 refl refl refl;
-      }
-
-  pub open-came : Came (openDrawing n)
-  open-came = record { plan = opening n; reached = reached-opening n low high; is = open-is }
+      })
 
   -- Accepted.
-  pub opens : {d : Drawing} → d ≡ openDrawing n → Opens n (record { answer = Accepted; drawing = d })
-  opens q =
+  pub opens : Opens n (record { answer = Accepted; drawing = d })
+  opens =
       let e : between 3 1024 n ≡ true = rw (le-leb 3 n low, le-leb n 1024 high) in
-      record { answer = rw e; drawing = rw (e, q) (open-is, open-came) }
+      record { answer = rw e; drawing = rw e (open-is, record { plan = opening n; reached = reached-opening n low high; is = open-is }) }

@@ -17,6 +17,7 @@ use Rattle.links.specs.Arrays.{Arrays}
 use Rattle.links.specs.Opening.{noPoints}
 use Rattle.stored.specs.Adding.{Holds}
 use Rattle.settling.specs.Placed.{Settleable, Settled, settleable-of, placed-at}
+use Rattle.tables.specs.Tables.{arraysIn}
 use Rattle.drawing.specs.declared.PointSeen.the-variants as Point
 use Rattle.drawing.specs.declared.Placed.{Placed}
 use Rattle.drawing.specs.View.{Came, pointSeen}
@@ -32,15 +33,15 @@ range {k} p e = let b = and-both (leb 1 p) (leb p k) e in (leb-true 1 p (b .0), 
 -- a drawing that came so, with its x settled
 pub record IsPlaced (v : Placed) : Type 0 where
   pub came : Came (v .drawing)
-  pub settled : Settled (v .x) (v .drawing .next) (v .drawing .gap) (v .drawing .owner) (v .drawing .counts .k)
+  pub settled : Settled (v .x) (arraysIn (v .drawing .table)) (v .drawing .counts .k)
 
 -- The arrays of a drawing can be settled, from an array of zeros.
-pub settleable : {q : Plan} {a : Arrays} {c : Counts} → Holds q a c → Settleable noPoints (a .next) (a .gap) (a .owner) (c .k)
+pub settleable : {q : Plan} {a : Arrays} {c : Counts} → Holds q a c → Settleable noPoints a (c .k)
 settleable {q} h =
     let small : q .k ≤ 1024 = omega (arith, h .standing .ranged .room, h .standing .ranged .high) in
-    settleable-of (h .stores) (h .standing .sound) (h .sized) refl small
+    settleable-of (h .stores) (h .standing .sound) refl small
 
-module _ {q : Plan} {a : Arrays} {c : Counts} {xs : List ℕ} (h : Holds q a c) (s : Settled xs (a .next) (a .gap) (a .owner) (c .k)) where
+module _ {q : Plan} {a : Arrays} {c : Counts} {xs : List ℕ} (h : Holds q a c) (s : Settled xs a (c .k)) where
   -- The settled x are the drawing's.
   pub settled-xs : take (q .k) xs ≡ q .xs
   settled-xs = rw (← h .stores .k) (s .right q (h .standing .sound) (placed-at (h .stores .k) (h .stores)))

@@ -1,4 +1,4 @@
--- What the program's drawing is: the arrays and numbers of a drawing of the rules.
+-- What the program's drawing is: the table and numbers of a drawing of the rules.
 -- Here `Plan` is the drawing as the rules see it, `Drawing` the program's.
 use Rattle.rules.specs.declared.Answer.the-variants.{Refused}
 use Rattle.rules.specs.declared.Place.{Place}
@@ -7,8 +7,8 @@ use Rattle.rules.specs.Points.{Drawing as Plan}
 use Rattle.rules.specs.Lookups.{Sought, cutLine, noCutLine}
 use Rattle.rules.specs.Lookups as Rules
 use Rattle.exchange.specs.Built.{Reached}
-use Rattle.links.specs.Arrays.{Arrays, arraysOf}
 use Rattle.stored.specs.Adding.{Holds}
+use Rattle.tables.specs.Tables.{arraysIn}
 use Rattle.drawing.specs.declared.Drawing.{Drawing}
 use Rattle.drawing.specs.declared.PointSeen.{PointSeen}
 use Rattle.drawing.specs.declared.PointSeen.the-variants as Point
@@ -17,12 +17,9 @@ use Rattle.drawing.specs.declared.LineSeen.the-variants as Line
 use Rattle.drawing.specs.declared.CutSeen.{CutSeen}
 use Rattle.drawing.specs.declared.CutSeen.the-variants as Cut
 
-abbrev pub arraysIn : Drawing → Arrays
-arraysIn d = arraysOf (d .next) (d .gap) (d .owner) (d .ys) (d .dls) (d .drs) (d .hs) (d .words) (d .later) (d .bends)
-
 -- d is the plan p, stored
 abbrev pub Is : Plan → Drawing → Type 0
-Is p d = Holds p (arraysIn d) (d .counts)
+Is p d = Holds p (arraysIn (d .table)) (d .counts)
 
 -- d came from opening and calls, or from an order file
 pub record Came (d : Drawing) : Type 0 where

@@ -1,40 +1,31 @@
-// The drawing by value: opening, adding, look-ups. It wraps the core over lent arrays and copies at entry and exit only.
+// The drawing by value: opening, adding, look-ups. It wraps the core over a lent table and copies at entry and exit only.
 use links::Counts;
 use rules::Answer;
-use rules::Bend;
-use rules::Entry;
 use rules::Line;
 use rules::Place;
 use rules::Refusal;
+use tables::LATER;
+use tables::WORDS;
+use tables::YS;
 ghost use mathlib.Core.Path.{_≡_};
-ghost use Prim.Native.Nat.{_-_, _<_, _≤_};
-ghost use lib.ListN.{length, getD};
+ghost use Prim.Native.Nat.{_<_, _≤_};
 ghost use Rattle.rules.specs.Basics.{between};
 ghost use Rattle.rules.specs.Entries.{entryOf};
-ghost use Rattle.rules.specs.Points.{Drawing as Plan, at};
+ghost use Rattle.rules.specs.Points.{Drawing as Plan};
 ghost use Rattle.rules.specs.Lookups.{lookPoint, lookLine, LooksCut};
-ghost use Rattle.links.specs.Opening.{threeLines, noPoints};
+ghost use Rattle.links.specs.Opening.{noPoints};
+ghost use Rattle.tables.specs.Tables.{arraysIn};
 ghost use Rattle.settling.specs.Placed.{Settleable, Settled};
 ghost use Rattle.drawing.specs.View.{Is, Came, pointSeen, lineSeen, sought};
-ghost use Rattle.drawing.specs.Opens.{blank, openDrawing, Opens};
-ghost use Rattle.drawing.specs.Lines.{lineOf, lineIn};
+ghost use Rattle.drawing.specs.Opens.{blank, OpenFor, Opens};
 ghost use Rattle.drawing.specs.Cuts.{cutTo, FirstCut};
 ghost use Rattle.drawing.specs.Adds.{AddsTo};
 ghost use Rattle.drawing.specs.Places.{IsPlaced};
 
-// A drawing as the program keeps it: boundary links and gaps (crate `links` says what each array holds).
+// A drawing as the program keeps it: boundary links and gaps in one table (crate `links` says what each of its arrays holds).
 pub struct Drawing {
     pub counts: Counts,
-    pub next: [u16; 1024],
-    pub gap: [u16; 1024],
-    pub owner: [u16; 1024],
-    pub ys: [u16; 1024],
-    pub dls: [u16; 1024],
-    pub drs: [u16; 1024],
-    pub hs: [u16; 1024],
-    pub words: [u16; 3072],
-    pub later: [u16; 3072],
-    pub bends: [u16; 3072],
+    pub table: [u16; 16384],
 }
 
 // A drawing with the x of every placed point, settled once for many look-ups.
@@ -70,8 +61,6 @@ pub enum CutSeen {
 pub fn no_drawing() -> Drawing
     ensures { λ r. ⌜ r ≡ blank ⌝ }
 {
-    let points = [0u16; 1024];
-    let lines = [0u16; 3072];
     Drawing {
         counts: Counts {
             n: 0,
@@ -80,50 +69,16 @@ pub fn no_drawing() -> Drawing
             m: 0,
             lines: 0,
         },
-        next: points,
-        gap: points,
-        owner: points,
-        ys: points,
-        dls: points,
-        drs: points,
-        hs: points,
-        words: lines,
-        later: lines,
-        bends: lines,
+        table: [0u16; 16384],
     }
-}
-
-// An array of lines that begins with three numbers.
-fn three_lines(a: u16, b: u16, c: u16) -> [u16; 3072]
-    ensures { λ r. ⌜ r ≡ threeLines a b c ⌝ }
-{
-    let mut lines = [0u16; 3072];
-    lines[0] = a;
-    lines[1] = b;
-    lines[2] = c;
-    lines
 }
 
 // The drawing as opened: points 1, 2, 3 and their three cut lines.
 fn as_opened(n: usize) -> Drawing
-    ensures { λ r. ⌜ r ≡ openDrawing n ⌝ }
+    ensures { λ r. ⌜ OpenFor n r ⌝ }
 {
-    let none = [0u16; 1024];
-    let mut next = none;
-    next[0] = 3;
-    next[2] = 2;
-    let mut gap = none;
-    gap[2] = 3;
-    gap[1] = 3;
-    let mut ys = none;
-    ys[2] = 2;
-    let mut dls = none;
-    dls[1] = 1;
-    let mut drs = none;
-    drs[0] = 1;
-    let words = three_lines(1, 1, 2);
-    let later = three_lines(2, 3, 3);
-    let bends = three_lines(0, 4097, 8193);
+    let mut table = [0u16; 16384];
+    opening::open_in(&mut table, 1, 1, 2);
     Drawing {
         counts: Counts {
             n,
@@ -132,16 +87,7 @@ fn as_opened(n: usize) -> Drawing
             m: 3,
             lines: 3,
         },
-        next,
-        gap,
-        owner: none,
-        ys,
-        dls,
-        drs,
-        hs: none,
-        words,
-        later,
-        bends,
+        table,
     }
 }
 
@@ -167,45 +113,11 @@ pub fn add(d: Drawing, e: &[u16]) -> Done
     ensures { λ r. ⌜ AddsTo d (now (e .entry)) r ⌝ }
 {
     let c = d.counts;
-    let mut next = d.next;
-    let mut gap = d.gap;
-    let mut owner = d.owner;
-    let mut ys = d.ys;
-    let mut dls = d.dls;
-    let mut drs = d.drs;
-    let mut hs = d.hs;
-    let mut words = d.words;
-    let mut later = d.later;
-    let mut bends = d.bends;
-    let added = adding::add(
-        &mut next,
-        &mut gap,
-        &mut owner,
-        &mut ys,
-        &mut dls,
-        &mut drs,
-        &mut hs,
-        &mut words,
-        &mut later,
-        &mut bends,
-        c,
-        e,
-    );
+    let mut table = d.table;
+    let added = adding::add(&mut table, c, e);
     let answer = added.answer;
     let counts = added.counts;
-    let drawing = Drawing {
-        counts,
-        next,
-        gap,
-        owner,
-        ys,
-        dls,
-        drs,
-        hs,
-        words,
-        later,
-        bends,
-    };
+    let drawing = Drawing { counts, table };
     Done { answer, drawing }
 }
 
@@ -217,12 +129,12 @@ fn is_point(k: usize, p: usize) -> bool
 }
 
 // The x of every placed point.
-fn settled(next: &[u16; 1024], gap: &[u16; 1024], owner: &[u16; 1024], k: usize) -> [u16; 1024]
-    requires { ⌜ Settleable noPoints (now next) (now gap) (now owner) k ⌝ }
-    ensures { λ r. ⌜ Settled r (now (next .entry)) (now (gap .entry)) (now (owner .entry)) k ⌝ }
+fn settled(table: &[u16; 16384], k: usize) -> [u16; 1024]
+    requires { ⌜ Settleable noPoints (arraysIn (now table)) k ⌝ }
+    ensures { λ r. ⌜ Settled r (arraysIn (now (table .entry))) k ⌝ }
 {
     let mut x = [0u16; 1024];
-    settling::settle(&mut x, next, gap, owner, k);
+    settling::settle(&mut x, table, k);
     x
 }
 
@@ -232,20 +144,8 @@ pub fn settle(d: Drawing) -> Placed
     ensures { λ r. ⌜ (r .drawing ≡ d) × IsPlaced r ⌝ }
 {
     let c = d.counts;
-    let next = d.next;
-    let gap = d.gap;
-    let owner = d.owner;
-    let x = settled(&next, &gap, &owner, c.k);
+    let x = settled(&d.table, c.k);
     Placed { drawing: d, x }
-}
-
-// The place of point p, from the x and the y of all.
-fn place_in(x: &[u16; 1024], ys: &[u16; 1024], p: usize) -> Place
-    requires { ⌜ (length (now x) ≡ 1024) × (length (now ys) ≡ 1024) × (1 ≤ p) × (p ≤ 1024) ⌝ }
-    ensures { λ r. ⌜ r ≡ at (getD (now (x .entry)) (p - 1) 0) (getD (now (ys .entry)) (p - 1) 0) ⌝ }
-{
-    let i = p - 1;
-    Place { x: x[i], y: ys[i] }
 }
 
 // A point's place.
@@ -258,9 +158,11 @@ pub fn point_at(v: Placed, p: usize) -> PointSeen
     if !is_point(k, p) {
         return PointSeen::Refused(Refusal::NoSuch, 0);
     }
-    let x = v.x;
-    let ys = d.ys;
-    PointSeen::At(place_in(&x, &ys, p))
+    let i = p - 1;
+    PointSeen::At(Place {
+        x: v.x[i],
+        y: d.table[YS + i],
+    })
 }
 
 // The same, where one look-up is enough.
@@ -269,30 +171,6 @@ pub fn point(d: Drawing, p: usize) -> PointSeen
     ensures { λ r. ⌜ ((q : Plan) → Is q d → r ≡ pointSeen (lookPoint q p)) ⌝ }
 {
     point_at(settle(d), p)
-}
-
-// The line of an entry, with its later point and its bend.
-fn line_of(x: Entry, later: u16, bend: Bend) -> Line
-    ensures { λ r. ⌜ r ≡ lineOf x later bend ⌝ }
-{
-    Line {
-        later,
-        earlier: x.point,
-        bend,
-        cut: x.cut,
-    }
-}
-
-// Line e of the arrays.
-fn line_in(words: &[u16; 3072], later: &[u16; 3072], bends: &[u16; 3072], e: usize) -> Line
-    requires { ⌜ (length (now words) ≡ 3072) × (length (now later) ≡ 3072) × (length (now bends) ≡ 3072) × (e < 3072) ⌝ }
-    ensures { λ r. ⌜ r ≡ lineIn (now (words .entry)) (now (later .entry)) (now (bends .entry)) e ⌝ }
-{
-    line_of(
-        entries::split(words[e]),
-        later[e],
-        bends::bend_from(bends[e]),
-    )
 }
 
 // A line with its ends, bend and cut flag, and where its bend lies.
@@ -305,19 +183,13 @@ pub fn line_at(v: Placed, e: usize) -> LineSeen
     if c.lines <= e {
         return LineSeen::Refused(Refusal::NoSuch, 0);
     }
-    let words = d.words;
-    let later = d.later;
-    let bends = d.bends;
-    let l = line_in(&words, &later, &bends, e);
     let x = v.x;
-    let ys = d.ys;
-    let dls = d.dls;
-    let drs = d.drs;
-    let hs = d.hs;
+    let table = d.table;
+    let l = bends::line_in(&table, e);
     let to = words::broad(l.later);
     let from = words::broad(l.earlier);
     let b = l.bend;
-    let at = settling::bend_of(&x, &ys, &dls, &drs, &hs, to, from, b);
+    let at = settling::bend_of(&x, &table, to, from, b);
     LineSeen::Seen(l, at)
 }
 
@@ -338,13 +210,13 @@ fn is_cut_to(word: u16, later: u16, p: usize) -> bool
 }
 
 // The first cut line that ends at p, or the number of lines.
-fn first_cut(words: &[u16; 3072], later: &[u16; 3072], lines: usize, p: usize) -> usize
-    requires { ⌜ (length (now words) ≡ 3072) × (length (now later) ≡ 3072) × (lines ≤ 3072) ⌝ }
-    ensures { λ r. ⌜ FirstCut (now (words .entry)) (now (later .entry)) lines p r ⌝ }
+fn first_cut(table: &[u16; 16384], lines: usize, p: usize) -> usize
+    requires { ⌜ lines ≤ 3072 ⌝ }
+    ensures { λ r. ⌜ FirstCut (arraysIn (now (table .entry))) lines p r ⌝ }
 {
     let mut e = 0;
     while e < lines {
-        if is_cut_to(words[e], later[e], p) {
+        if is_cut_to(table[WORDS + e], table[LATER + e], p) {
             return e;
         }
         e += 1;
@@ -361,9 +233,7 @@ pub fn cut_line(d: Drawing, p: usize) -> CutSeen
     if !is_point(c.k, p) {
         return CutSeen::Refused(Refusal::NoSuch, 0);
     }
-    let words = d.words;
-    let later = d.later;
-    let e = first_cut(&words, &later, c.lines, p);
+    let e = first_cut(&d.table, c.lines, p);
     if e < c.lines {
         CutSeen::Line(e)
     } else {

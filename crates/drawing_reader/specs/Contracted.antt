@@ -16,7 +16,6 @@ use Rattle.links.specs.declared.Counts.{Counts}
 use Rattle.links.specs.Arrays.{Arrays}
 use Rattle.stored.specs.Adding.{Holds}
 use Rattle.adding.specs.Calls.{Ready}
-use Rattle.opening.specs.Zeros.{Zeros}
 use Rattle.line_records.specs.Lines.{linesAt}
 use Rattle.drawing_reader.specs.Judged.{judgeDrawing}
 
@@ -40,11 +39,11 @@ nextGroup f base total i d =
 abbrev pub restGroups : List ℕ → ℕ → ℕ → Counts → Drawing → Result Drawing
 restGroups f base total c d = judgeRest (c .n - c .k) (base + 12 * total) d (linesBehind f base total (c .lines))
 
--- the lines are there, the next one is c's, the arrays hold a drawing, and e has room
-pub record Groups (f : List ℕ) (base total : ℕ) (a : Arrays) (c : Counts) (e : List ℕ) : Type 0 where
+-- the lines are there, the next one is c's, and the arrays hold a drawing
+pub record Groups (f : List ℕ) (base total : ℕ) (a : Arrays) (c : Counts) : Type 0 where
   pub there : base + 12 * total ≤ length f
   pub few : c .lines ≤ total
-  pub room : total ≤ length e
+  pub most : total ≤ 3072
   pub ready : Ready a c
 
 -- after an accepted group: one point more, and the lines behind the group are next
@@ -66,11 +65,6 @@ pub record AllGrouped (f : List ℕ) (base total : ℕ) (a : Arrays) (c : Counts
   pub holds : (d z : Drawing) → Holds d a c → restGroups f base total c d ≡ good z → Holds z a′ (r .counts)
 
 -- ---- the file
-
--- arrays of zeros, and room for 3,072 entries
-pub record Fresh (a : Arrays) (e : List ℕ) : Type 0 where
-  pub zeros : Zeros a
-  pub room : length e ≡ 3072
 
 -- what reading a file leaves; what the arrays hold after a refusal is left open
 pub record LinesRead (f : List ℕ) (a′ : Arrays) (r : Added) : Type 0 where

@@ -1,5 +1,5 @@
--- The file that the lists give is the drawing file of the finished drawing that they hold.
-use Prim.Native.Nat.{ℕ, zero, suc, pred, _+_, _*_, _<_, _≤_}
+-- The file that the arrays give is the drawing file of the finished drawing that they hold.
+use Prim.Native.Nat.{ℕ, zero, suc, _+_, _*_, _<_}
 use mathlib.Core.Path.{_≡_, refl, ap, ap₂, sym, _∙_}
 use mathlib.Core.List.{List, [], _∷_, _++_, append-assoc, append-nil}
 use native.Mathlib.Omega.{arith}
@@ -11,11 +11,12 @@ use Rattle.rules.specs.Ports.{bendPlace}
 use Rattle.rules.specs.Records.{written, pointPlace, lineShape, endShape}
 use Rattle.rules.specs.DrawingFile.{highest, writePoints, lineWords, writeLines, drawingBytes}
 use Rattle.links.specs.declared.Counts.{Counts}
+use Rattle.links.specs.Arrays.{Arrays}
 use Rattle.promise.specs.Bounds.{Standing}
-use Rattle.settling.specs.Bending.{Shows, bend-right}
-use Rattle.bends.specs.Codes.{bendFrom, bend-back}
-use Rattle.bends.specs.Indexes.{indexed}
-use Rattle.drawing_writer.specs.Lists.{Lists, several, pointBytes, lineIn, bendAt, lineBytes, fileBytes}
+use Rattle.settling.specs.Bending.{Shows, shows-of, bend-right}
+use Rattle.bends.specs.Lines.{lineIn}
+use Rattle.bends.specs.Lines as Lines
+use Rattle.drawing_writer.specs.Lists.{several, pointBytes, bendAt, lineBytes, fileBytes}
 use Rattle.drawing_writer.specs.Stores.{length-several}
 use Rattle.drawing_writer.specs.Finished.{Finished}
 
@@ -66,55 +67,46 @@ length-file {d} t =
     let ll : length l ≡ 12 * length (d .lines) = ap length (lines-are d (d .lines) _) ∙ length-several (λ e. lineRecord d (lineAt d e)) 12 (λ e. refl) (length (d .lines)) in
     omega (arith, length-append p (l ++ written endShape []), length-append l (written endShape []), z .xs)
 
--- ---- the lists of a finished drawing
+-- ---- the arrays of a finished drawing
 
-module _ {d : Drawing} {a : Lists} {c : Counts} (h : Finished d a c) where
-  -- The lists show the drawing.
-  pub shows : Shows d (a .x) (a .ys) (a .dls) (a .drs) (a .hs)
-  shows = record { x = rw (h .k) at (h .settled); y = h .ys; dl = h .dls; dr = h .drs; h = h .hs }
+module _ {d : Drawing} {x : List ℕ} {a : Arrays} {c : Counts} (h : Finished d x a c) where
+  -- They show the drawing.
+  pub shows : Shows d x a
+  shows = shows-of (rw (h .holds .stores .k) at (h .settled)) (h .holds .stores)
 
-  pub x-is : (i : ℕ) → i < d .k → getD (a .x) i 0 ≡ getD (d .xs) i 0
-  x-is i b = sym (getD-take (d .k) (a .x) i 0 b) ∙ ap (λ (l : List ℕ). getD l i 0) (shows .x)
+  pub x-is : (i : ℕ) → i < d .k → getD x i 0 ≡ getD (d .xs) i 0
+  x-is i b = sym (getD-take (d .k) x i 0 b) ∙ ap (λ (l : List ℕ). getD l i 0) (shows .x)
 
   pub y-is : (i : ℕ) → i < d .k → getD (a .ys) i 0 ≡ getD (d .ys) i 0
-  y-is i b = sym (getD-take (d .k) (a .ys) i 0 b) ∙ ap (λ (l : List ℕ). getD l i 0) (h .ys)
+  y-is i b = sym (getD-take (d .k) (a .ys) i 0 b) ∙ ap (λ (l : List ℕ). getD l i 0) (h .holds .stores .ys)
 
   module _ (e : ℕ) (el : e < length (d .lines)) where
-    -- The ends of a line are placed points.
-    ends : (0 < lineAt d e .later) × (lineAt d e .later ≤ d .k) × (0 < lineAt d e .earlier) × (lineAt d e .earlier ≤ d .k)
-    ends =
-        let some = h .standing .sound .ended .ends e el in
-        let most : (pred (lineAt d e .earlier) < d .k) × (pred (lineAt d e .later) < d .k) = h .standing .sound .inv .core .lines .ends e el in
-        (some .1, omega (arith, most .1), some .0, omega (arith, most .0))
-
-    -- The line that the lists have is the drawing's.
+    -- The line that the arrays have is the drawing's.
     pub line-is : lineIn a e ≡ lineAt d e
-    line-is =
-        let v = h .later e el in
-        let u = h .entry e el in
-        let b : bendFrom (getD (a .bends) e 0) ≡ lineAt d e .bend = ap bendFrom (h .bend e el) ∙ bend-back (lineAt d e .bend) (indexed d (h .standing) e el) in
-        λ i. record { later = v i; earlier = u i .point; bend = b i; cut = u i .cut }
+    line-is = Lines.line-is (h .holds .standing) e el (h .holds .stores)
 
     -- So is its bend.
-    pub bend-is : bendAt a (lineAt d e) ≡ bendPlace d (lineAt d e)
-    bend-is = bend-right shows (lineAt d e .later) (lineAt d e .earlier) (ends .0) (ends .1) (ends .2) (ends .3) (lineAt d e .bend)
+    pub bend-is : bendAt x a (lineAt d e) ≡ bendPlace d (lineAt d e)
+    bend-is =
+        let p = Lines.ends (h .holds .standing) e el in
+        bend-right shows (lineAt d e .later) (lineAt d e .earlier) (p .0) (p .1) (p .2) (p .3) (lineAt d e .bend)
 
-    record-is : lineBytes (d .s) a e ≡ lineRecord d (lineAt d e)
+    record-is : lineBytes (d .s) x a e ≡ lineRecord d (lineAt d e)
     unfolding lineBytes
     record-is =
-        ap (λ (l : Line). written lineShape (lineWords (d .s) l (bendAt a l))) line-is ∙
+        ap (λ (l : Line). written lineShape (lineWords (d .s) l (bendAt x a l))) line-is ∙
         ap (λ b. written lineShape (lineWords (d .s) (lineAt d e) b)) bend-is
 
-  -- The file that the lists give is the drawing's.
-  pub file-is : fileBytes a c ≡ drawingBytes d
+  -- The file that the arrays give is the drawing's.
+  pub file-is : fileBytes x a c ≡ drawingBytes d
   unfolding fileBytes drawingBytes
   file-is =
-      let z = h .standing .sound .sized in
-      let k = h .standing .ranged .three in
-      let top : highest (take (c .k) (a .ys)) ≡ highest (d .ys) = ap highest (ap (λ (n : ℕ). take n (a .ys)) (h .k) ∙ h .ys) in
-      let p : several (pointBytes (d .s) (a .x) (a .ys)) (d .k) ≡ writePoints (d .s) (d .xs) (d .ys) =
-      several-same (pointBytes (d .s) (a .x) (a .ys)) (pointBytes (d .s) (d .xs) (d .ys)) (d .k) (λ i b. rw (x-is i b, y-is i b)) ∙
+      let z = h .holds .standing .sound .sized in
+      let k = h .holds .standing .ranged .three in
+      let top : highest (take (c .k) (a .ys)) ≡ highest (d .ys) = ap highest (ap (λ (n : ℕ). take n (a .ys)) (h .holds .stores .k) ∙ h .holds .stores .ys) in
+      let p : several (pointBytes (d .s) x (a .ys)) (d .k) ≡ writePoints (d .s) (d .xs) (d .ys) =
+      several-same (pointBytes (d .s) x (a .ys)) (pointBytes (d .s) (d .xs) (d .ys)) (d .k) (λ i b. rw (x-is i b, y-is i b)) ∙
       ap (several (pointBytes (d .s) (d .xs) (d .ys))) (sym (z .xs)) ∙ sym (points-are (d .s) (d .xs) (d .ys) (z .xs ∙ sym (z .ys))) in
-      let l : several (lineBytes (d .s) a) (length (d .lines)) ≡ writeLines d (d .lines) =
-      several-same (lineBytes (d .s) a) (λ e. lineRecord d (lineAt d e)) (length (d .lines)) record-is ∙ sym (lines-are d (d .lines) _) in
-      rw (h .n, h .s, top, x-is 1 (omega arith), h .k, h .lines, p, l)
+      let l : several (lineBytes (d .s) x a) (length (d .lines)) ≡ writeLines d (d .lines) =
+      several-same (lineBytes (d .s) x a) (λ e. lineRecord d (lineAt d e)) (length (d .lines)) record-is ∙ sym (lines-are d (d .lines) _) in
+      rw (h .holds .stores .n, h .holds .stores .s, top, x-is 1 (omega arith), h .holds .stores .k, h .holds .stores .lines, p, l)

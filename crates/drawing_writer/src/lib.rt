@@ -1,9 +1,10 @@
-// Writes the drawing file of a finished drawing from the lent arrays and its settled x.
+// Writes the drawing file of a finished drawing from the lent table and its settled x.
 // For `panel`: it asks for a finished drawing and room in the buffer, which are tested there.
-use bends::bend_from;
-use entries::split;
+use bends::line_in;
 use links::Counts;
 use settling::bend_of;
+use tables::DLS;
+use tables::YS;
 use words::broad;
 use words::narrow;
 use words::put_word;
@@ -17,12 +18,13 @@ ghost use Rattle.rules.specs.Refusals.{good};
 ghost use Rattle.rules.specs.Records.{written, drawingHead, pointPlace, lineShape};
 ghost use Rattle.rules.specs.DrawingFile.{highest, drawingBytes};
 ghost use Rattle.rules.specs.Output.{filled};
-ghost use Rattle.drawing_writer.specs.Lists.{listsOf, several, pointBytes, lineBytes};
+ghost use Rattle.tables.specs.Tables.{Full, arraysIn};
+ghost use Rattle.drawing_writer.specs.Lists.{several, pointBytes, lineBytes};
 ghost use Rattle.drawing_writer.specs.Stores.{Stored};
 ghost use Rattle.drawing_writer.specs.Finished.{Finished, Writable, PointsReady, LineReady, LinesReady};
 
 // The largest y of the first k points.
-fn largest(ys: &[u16; 1024], k: usize) -> usize
+fn largest(ys: &[u16], k: usize) -> usize
     requires { ⌜ (length (now ys) ≡ 1024) × (k ≤ 1024) ⌝ }
     ensures { λ r. ⌜ r ≡ highest (take k (now (ys .entry))) ⌝ }
 {
@@ -61,7 +63,7 @@ fn write_point(out: &mut [u8], at: usize, x: u16, y: u16)
 }
 
 // The records of the first k points, behind the header.
-fn write_points(out: &mut [u8], x: &[u16; 1024], ys: &[u16; 1024], s: usize, k: usize)
+fn write_points(out: &mut [u8], x: &[u16; 1024], ys: &[u16], s: usize, k: usize)
     requires { ⌜ PointsReady (now x) (now ys) s k (now out) ⌝ }
     ensures { λ _. ⌜ Stored (now (out .entry)) 10 (several (pointBytes s (now (x .entry)) (now (ys .entry))) k) (now (out .exit)) ⌝ }
 {
@@ -94,122 +96,45 @@ fn write_numbers(out: &mut [u8], at: usize, later: u16, earlier: u16, x: u16, y:
     put_word(out, at + 10, mark);
 }
 
-// The record of line e, from what the arrays hold of it.
-fn write_line(
-    out: &mut [u8],
-    at: usize,
-    x: &[u16; 1024],
-    ys: &[u16; 1024],
-    dls: &[u16; 1024],
-    drs: &[u16; 1024],
-    hs: &[u16; 1024],
-    words: &[u16; 3072],
-    later: &[u16; 3072],
-    bends: &[u16; 3072],
-    s: usize,
-    e: usize,
-)
-    requires { ⌜ LineReady (listsOf (now x) (now ys) (now dls) (now drs) (now hs) (now words) (now later) (now bends)) s e at (now out) ⌝ }
-    ensures { λ _. ⌜ Stored (now (out .entry)) at
-        (lineBytes s (listsOf (now (x .entry)) (now (ys .entry)) (now (dls .entry)) (now (drs .entry)) (now (hs .entry)) (now (words .entry)) (now (later .entry)) (now (bends .entry))) e)
-        (now (out .exit)) ⌝ }
+// The record of line e, from what the table holds of it.
+fn write_line(out: &mut [u8], at: usize, x: &[u16; 1024], table: &[u16], s: usize, e: usize)
+    requires { ⌜ LineReady (now x) (arraysIn (now table)) s e at (now out) × Full (now table) ⌝ }
+    ensures { λ _. ⌜ Stored (now (out .entry)) at (lineBytes s (now (x .entry)) (arraysIn (now (table .entry))) e) (now (out .exit)) ⌝ }
 {
-    let end = later[e];
-    let word = words[e];
-    let entry = split(word);
-    let bend = bend_from(bends[e]);
-    let place = bend_of(x, ys, dls, drs, hs, broad(end), broad(entry.point), bend);
+    let l = line_in(table, e);
+    let bend = l.bend;
+    let place = bend_of(x, table, broad(l.later), broad(l.earlier), bend);
     let bend_x = narrow(s * broad(place.x));
     let bend_y = narrow(s * broad(place.y));
-    write_numbers(
-        out,
-        at,
-        end,
-        entry.point,
-        bend_x,
-        bend_y,
-        mark_of(entry.cut),
-    );
+    write_numbers(out, at, l.later, l.earlier, bend_x, bend_y, mark_of(l.cut));
 }
 
 // The records of the first `count` lines, from the place `at` on.
-fn write_lines(
-    out: &mut [u8],
-    at: usize,
-    x: &[u16; 1024],
-    ys: &[u16; 1024],
-    dls: &[u16; 1024],
-    drs: &[u16; 1024],
-    hs: &[u16; 1024],
-    words: &[u16; 3072],
-    later: &[u16; 3072],
-    bends: &[u16; 3072],
-    s: usize,
-    count: usize,
-)
-    requires { ⌜ LinesReady (listsOf (now x) (now ys) (now dls) (now drs) (now hs) (now words) (now later) (now bends)) s count at (now out) ⌝ }
-    ensures { λ _. ⌜ Stored (now (out .entry)) at
-        (several (lineBytes s (listsOf (now (x .entry)) (now (ys .entry)) (now (dls .entry)) (now (drs .entry)) (now (hs .entry)) (now (words .entry)) (now (later .entry)) (now (bends .entry)))) count)
-        (now (out .exit)) ⌝ }
+fn write_lines(out: &mut [u8], at: usize, x: &[u16; 1024], table: &[u16], s: usize, count: usize)
+    requires { ⌜ LinesReady (now x) (arraysIn (now table)) s count at (now out) × Full (now table) ⌝ }
+    ensures { λ _. ⌜ Stored (now (out .entry)) at (several (lineBytes s (now (x .entry)) (arraysIn (now (table .entry)))) count) (now (out .exit)) ⌝ }
 {
     let mut e = 0;
     while e < count {
-        write_line(
-            out,
-            at + 12 * e,
-            x,
-            ys,
-            dls,
-            drs,
-            hs,
-            words,
-            later,
-            bends,
-            s,
-            e,
-        );
+        write_line(out, at + 12 * e, x, table, s, e);
         e += 1;
     }
 }
 
-// The drawing file of the finished drawing that the arrays hold, whose x are settled: into the start of the buffer.
-pub fn write_drawing(
-    out: &mut [u8],
-    x: &[u16; 1024],
-    ys: &[u16; 1024],
-    dls: &[u16; 1024],
-    drs: &[u16; 1024],
-    hs: &[u16; 1024],
-    words: &[u16; 3072],
-    later: &[u16; 3072],
-    bends: &[u16; 3072],
-    c: Counts,
-)
-    requires { ⌜ Writable (listsOf (now x) (now ys) (now dls) (now drs) (now hs) (now words) (now later) (now bends)) c (now out) ⌝ }
+// The drawing file of the finished drawing that the table holds, whose x are settled: into the start of the buffer.
+pub fn write_drawing(out: &mut [u8], x: &[u16; 1024], table: &[u16], c: Counts)
+    requires { ⌜ Writable (now x) (arraysIn (now table)) c (now out) × Full (now table) ⌝ }
     ensures { λ _. ⌜
-        ((d : Drawing) → Finished d (listsOf (now (x .entry)) (now (ys .entry)) (now (dls .entry)) (now (drs .entry)) (now (hs .entry)) (now (words .entry)) (now (later .entry)) (now (bends .entry))) c →
+        ((d : Drawing) → Finished d (now (x .entry)) (arraysIn (now (table .entry))) c →
         now (out .exit) ≡ filled (now (out .entry)) (good (drawingBytes d)))
         ⌝ }
 {
     let s = c.s;
     let width = narrow(s * broad(x[1]));
-    let height = narrow(s * largest(ys, c.k));
+    let height = narrow(s * largest(&table[YS..DLS], c.k));
     write_head(out, narrow(c.n), narrow(s), width, height);
-    write_points(out, x, ys, s, c.k);
+    write_points(out, x, &table[YS..DLS], s, c.k);
     let points = 6 * c.k;
-    write_lines(
-        out,
-        10 + points,
-        x,
-        ys,
-        dls,
-        drs,
-        hs,
-        words,
-        later,
-        bends,
-        s,
-        c.lines,
-    );
+    write_lines(out, 10 + points, x, table, s, c.lines);
     put_word(out, 10 + points + 12 * c.lines, 0x454E);
 }

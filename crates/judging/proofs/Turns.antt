@@ -1,4 +1,4 @@
--- One turn of each loop, on lists: the tests of the entry at hand, then those of the entries behind it.
+-- The tests of one entry, and one turn of the loop along the links, on lists.
 use Prim.Native.Nat.{ℕ, _+_, _-_, _<_}
 use mathlib.Core.Path.{_≡_, refl, ap}
 use mathlib.Core.Bool.{not, _||_}
@@ -9,25 +9,24 @@ use lib.ListN.{length, getD, drop}
 use lib.Seq.{drop-cons}
 use lib.Dec.{ltb, eqb}
 use Rattle.rules.specs.declared.Refusal.the-variants.{NotPlaced, Covered, NoRun}
-use Rattle.rules.specs.Refusals.{Result, _>>_, refuseIf}
+use Rattle.rules.specs.Refusals.{Result, good, _>>_, refuseIf}
 use Rattle.links.specs.Arrays.{atPoint}
-use Rattle.links.specs.Judging.{entriesPass, linksPass, runPasses}
+use Rattle.links.specs.Judging.{pointIn, entriesPass, linksPass, runPasses}
 use Rattle.links.specs.Placing.{entryPoint}
 
 -- a list read at point p, by the code's index
 at-point : (l : List ℕ) (p : ℕ) → atPoint l p ≡ getD l (p - 1) 0
 at-point l p = ap (λ (j : ℕ). getD l j 0) (omega arith)
 
--- 6 and 7 of entry i with point p, then the rest
-abbrev pub entryFirst : List ℕ → ℕ → ℕ → ℕ → Result (Unit {0}) → Result (Unit {0})
-entryFirst owner k i p rest = do
+-- 6 and 7 of entry i with point p
+abbrev pub entryTests : List ℕ → ℕ → ℕ → ℕ → Result (Unit {0})
+entryTests owner k i p = do
   refuseIf (eqb p 0 || ltb k p) NotPlaced i
   refuseIf (not (eqb (getD owner (p - 1) 0) 0)) Covered i
-  rest
+  good tt
 
-pub entry-turn : (owner es : List ℕ) (k i p : ℕ) → i < length es → p ≡ entryPoint es i →
-    entriesPass owner k i (drop i es) ≡ entryFirst owner k i p (entriesPass owner k (i + 1) (drop (i + 1) es))
-entry-turn owner es k i p h hp = rw (drop-cons es i 0 h, ← hp, at-point owner p, add-one)
+pub entry-by : (owner : List ℕ) (k i e p : ℕ) → p ≡ pointIn e → entriesPass owner k i (e ∷ []) ≡ entryTests owner k i p
+entry-by owner k i e p h = rw (h, ← at-point owner (pointIn e))
 
 -- 8 of entry i with point q behind the point p, then the rest
 abbrev pub linkFirst : List ℕ → ℕ → ℕ → ℕ → Result (Unit {0}) → Result (Unit {0})

@@ -1,16 +1,21 @@
--- What the entries of a call that these tests accept are known to be.
-use Prim.Native.Nat.{ℕ, zero, suc, _<_, _≤_}
-use mathlib.Core.Path.{_≡_, refl}
+-- What the entries of a call that these tests accept are known to be, and 6 and 7 entry by entry.
+use Prim.Native.Nat.{ℕ, zero, suc, _+_, _<_, _≤_}
+use mathlib.Core.Path.{_≡_, refl, sym, _∙_}
 use mathlib.Core.Bool.{Bool, true, false, not, _||_}
 use mathlib.Core.List.{List, [], _∷_}
 use native.Mathlib.Nat.{le-trans, pos-of-ne-zero}
+use native.Mathlib.Numerals.{add-one}
 use native.Mathlib.Omega.{arith}
-use lib.ListN.{length}
+use lib.ListN.{length, getD, drop}
+use lib.Seq.{drop-cons}
 use lib.Dec.{ltb, eqb}
 use borrow.Author.Tests.{ltb-false, eqb-false}
 use Rattle.rules.specs.declared.Refusal.{Refusal}
 use Rattle.rules.specs.declared.Refusal.the-variants.{NotPlaced, Covered}
-use Rattle.rules.specs.Refusals.{Result, good, _>>_, refuseIf}
+use Rattle.rules.specs.declared.Answer.{Answer}
+use Rattle.rules.specs.declared.Answer.the-variants.{Accepted, Refused}
+use Rattle.rules.specs.Refusals.{Result, good, refused, _>>_, refuseIf, answer}
+use Rattle.rules.specs.Answers.{accepted, refusing}
 use Rattle.links.specs.Arrays.{atPoint}
 use Rattle.links.specs.Judging.{pointIn, entriesPass}
 use Rattle.links.specs.Placing.{entryPoint}
@@ -50,3 +55,24 @@ entries-within owner k i (e ∷ es) h =
 -- among more points too
 pub within-up : (k l : ℕ) (es : List ℕ) → k ≤ l → Within k es → Within l es
 within-up k l es h w = record { low = w .low; high = λ i b. le-trans (w .high i b) h }
+
+-- ---- a loop over the entries, at entry i
+
+-- 6 and 7 of one entry, then those of the entries behind it
+entry-then : (owner : List ℕ) (k i e : ℕ) (es : List ℕ) → entriesPass owner k i (e ∷ es) ≡ (entriesPass owner k i (e ∷ []) >> entriesPass owner k (suc i) es)
+entry-then owner k i e es = go (eqb (pointIn e) 0 || ltb k (pointIn e)) (not (eqb (atPoint owner (pointIn e)) 0)) (entriesPass owner k (suc i) es)
+  where
+    go : (a b : Bool) (rest : Result (Unit {0})) → (refuseIf a NotPlaced i >> (refuseIf b Covered i >> rest)) ≡ ((refuseIf a NotPlaced i >> (refuseIf b Covered i >> good (tt {0}))) >> rest)
+    go true b rest = refl
+    go false true rest = refl
+    go false false rest = refl
+
+module _ (owner es : List ℕ) (k i w : ℕ) (more : i < length es) (is : w ≡ getD es i 0) {said : Answer} (answers : said ≡ answer (entriesPass owner k i (w ∷ []))) where
+  turn : entriesPass owner k i (drop i es) ≡ (entriesPass owner k i (w ∷ []) >> entriesPass owner k (i + 1) (drop (i + 1) es))
+  turn = rw (drop-cons es i 0 more, ← is, add-one) (entry-then owner k i w (drop (suc i) es))
+
+  pub entry-refused : (f : Refusal) (p : ℕ) → said ≡ Refused f p → entriesPass owner k i (drop i es) ≡ refused f p
+  entry-refused f p h = turn ∙ rw (refusing (entriesPass owner k i (w ∷ [])) f p (sym answers ∙ h))
+
+  pub entry-passed : said ≡ Accepted → entriesPass owner k i (drop i es) ≡ entriesPass owner k (i + 1) (drop (i + 1) es)
+  entry-passed h = turn ∙ rw (accepted (entriesPass owner k i (w ∷ [])) (sym answers ∙ h) .is)

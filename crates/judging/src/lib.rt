@@ -1,41 +1,54 @@
 // The tests of an adding call that need no new places, on the stored owners and links: 21, 5, then entry by entry 6 before 7, then 8, 9.
-// For `adding`, which has the arrays of full length that are asked for.
+// For `adding`, which has the arrays of full length that are asked for, and, entry by entry, for `order_reader`.
 use entries::point_of;
 use links::Counts;
 use rules::Answer;
 use rules::Refusal;
 use words::broad;
 ghost use mathlib.Core.Path.{_≡_};
+ghost use mathlib.Core.List.{[], _∷_};
 ghost use Prim.Native.Nat.{_≤_};
 ghost use lib.ListN.{length};
 ghost use Rattle.rules.specs.Refusals.{answer};
 ghost use Rattle.links.specs.Judging.{entriesPass, runPasses, passes};
 ghost use Rattle.links.specs.Runs.{Within};
 
-// 6 and 7, entry by entry: each point is one of the k placed, and owned by nobody.
-fn judge_entries(e: &[u16], owner: &[u16; 1024], k: usize) -> Answer
+// 6 and 7 of entry i: its point is one of the k placed, and owned by nobody.
+pub fn judge_entry(e: u16, owner: &[u16], k: usize, i: usize) -> Answer
+    requires { ⌜ (length (now owner) ≡ 1024) × (k ≤ 1024) ⌝ }
+    ensures { λ r. ⌜ r ≡ answer (entriesPass (now (owner .entry)) k i (e ∷ [])) ⌝ }
+{
+    let p = broad(point_of(e));
+    if p == 0 {
+        return Answer::Refused(Refusal::NotPlaced, i);
+    }
+    if k < p {
+        return Answer::Refused(Refusal::NotPlaced, i);
+    }
+    if owner[p - 1] != 0 {
+        return Answer::Refused(Refusal::Covered, i);
+    }
+    Answer::Accepted
+}
+
+// 6 and 7, entry by entry.
+fn judge_entries(e: &[u16], owner: &[u16], k: usize) -> Answer
     requires { ⌜ (length (now owner) ≡ 1024) × (k ≤ 1024) ⌝ }
     ensures { λ r. ⌜ r ≡ answer (entriesPass (now (owner .entry)) k 0 (now (e .entry))) ⌝ }
 {
     let mut i = 0;
     while i < e.len() {
-        let p = broad(point_of(e[i]));
-        if p == 0 {
-            return Answer::Refused(Refusal::NotPlaced, i);
-        }
-        if k < p {
-            return Answer::Refused(Refusal::NotPlaced, i);
-        }
-        if owner[p - 1] != 0 {
-            return Answer::Refused(Refusal::Covered, i);
-        }
+        let said = judge_entry(e[i], owner, k, i);
+        let Answer::Accepted = said else {
+            return said;
+        };
         i += 1;
     }
     Answer::Accepted
 }
 
 // 8: each entry's point is linked from the point of the entry before it.
-fn judge_run(e: &[u16], next: &[u16; 1024]) -> Answer
+fn judge_run(e: &[u16], next: &[u16]) -> Answer
     requires { ⌜ (length (now next) ≡ 1024) × Within 1024 (now e) ⌝ }
     ensures { λ r. ⌜ r ≡ answer (runPasses (now (next .entry)) (now (e .entry))) ⌝ }
 {
@@ -51,7 +64,7 @@ fn judge_run(e: &[u16], next: &[u16; 1024]) -> Answer
 }
 
 // All of these tests; the first that fails is the answer.
-pub fn judge(e: &[u16], owner: &[u16; 1024], next: &[u16; 1024], c: Counts) -> Answer
+pub fn judge(e: &[u16], owner: &[u16], next: &[u16], c: Counts) -> Answer
     requires { ⌜ (length (now owner) ≡ 1024) × (length (now next) ≡ 1024) × (c .k ≤ 1024) ⌝ }
     ensures { λ r. ⌜ r ≡ answer (passes (now (owner .entry)) (now (next .entry)) (c .n) (c .k) (c .m) (now (e .entry))) ⌝ }
 {

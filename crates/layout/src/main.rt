@@ -2,6 +2,16 @@
 // Standard input holds 16-bit numbers, low byte first: n, the number of rounds, then the calls, each a count and its entries.
 use drawing::Drawing;
 use libc::STDOUT_FILENO;
+use tables::BENDS;
+use tables::DLS;
+use tables::DRS;
+use tables::GAP;
+use tables::HS;
+use tables::LATER;
+use tables::NEXT;
+use tables::OWNER;
+use tables::WORDS;
+use tables::YS;
 ghost use Prim.Native.Nat.{_+_, _<_, _≤_};
 ghost use lib.ListN.{length};
 
@@ -40,9 +50,9 @@ fn take_words(bytes: &[u8], out: &mut [u16]) -> usize
 fn mix(d: Drawing, at: usize) -> u16
     requires { ⌜ at < 1024 ⌝ }
 {
-    let links = d.next[at] ^ d.gap[at] ^ d.owner[at];
-    let points = d.ys[at] ^ d.dls[at] ^ d.drs[at] ^ d.hs[at];
-    let lines = d.words[at] ^ d.later[at] ^ d.bends[at];
+    let links = d.table[NEXT + at] ^ d.table[GAP + at] ^ d.table[OWNER + at];
+    let points = d.table[YS + at] ^ d.table[DLS + at] ^ d.table[DRS + at] ^ d.table[HS + at];
+    let lines = d.table[WORDS + at] ^ d.table[LATER + at] ^ d.table[BENDS + at];
     links ^ points ^ lines
 }
 

@@ -2,7 +2,6 @@
 use Prim.Native.Nat.{ℕ, _-_}
 use mathlib.Core.Path.{_≡_, sym, subst}
 use mathlib.Core.List.{List, [], _∷_}
-use lib.ListN.{length}
 use Rattle.rules.specs.declared.Refusal.{Refusal}
 use Rattle.rules.specs.declared.Answer.the-variants.{Refused}
 use Rattle.rules.specs.Refusals.{Result}
@@ -23,7 +22,8 @@ use Rattle.order_start.specs.declared.Head.the-variants as head
 use Rattle.records.specs.Cursors.{cursor}
 use Rattle.order_start.specs.Heading.{HeadRead}
 use Rattle.order_start.specs.Starting.{pointsFrom, Begun, StartRead}
-use Rattle.order_reader.specs.Points.{Going, Gave, RestRead, Blank, Headed}
+use Rattle.opening.specs.Zeros.{zeros}
+use Rattle.order_reader.specs.Points.{Going, Gave, RestRead, Headed}
 use Rattle.order_reader.proofs.Turns.{gave-refused}
 
 -- an entry is its point and whether it is cut
@@ -34,7 +34,7 @@ entry-is w p h = λ i. record { point = h i; cut = entryOf w .cut }
 abbrev begin : ℕ → ℕ → ℕ → ℕ → ℕ → Drawing
 begin n s a b c = startWith n s (entryOf a ∷ []) (entryOf b ∷ entryOf c ∷ [])
 
-module _ {f : List ℕ} {at n : ℕ} {x₀ : Arrays} {e₀ : List ℕ} (z : Headed f at n x₀ e₀) (s : ℕ) where
+module _ {f : List ℕ} {at n : ℕ} {t : List ℕ} (z : Headed f at n t) (s : ℕ) where
   -- points 1 to 3 are refused
   pub start-refused : (o : Start) → StartRead f (pointsFrom (cursor f at)) o → (r : Refusal) (p : ℕ) → o ≡ start.Refused r p → (v : Added) → v .answer ≡ Refused r p → (x : Arrays) →
       Gave (readPoints n s (cursor f at)) x v
@@ -58,8 +58,8 @@ module _ {f : List ℕ} {at n : ℕ} {x₀ : Arrays} {e₀ : List ℕ} (z : Head
           })
 
       -- the rest can be read, and gives all
-      pub start-going : (e : List ℕ) → length e ≡ 65536 → Going f next x (openCounts n s) e
-      start-going e l = record { ready = record { d = begin n s a b c; holds = held }; place = begun .room; room = l }
+      pub start-going : Going f next x (openCounts n s)
+      start-going = record { ready = record { d = begin n s a b c; holds = held }; place = begun .room }
 
       pub start-gave : (y : Arrays) (v : Added) → RestRead f next (n - 3) x (openCounts n s) y v → Gave (readPoints n s (cursor f at)) y v
       start-gave y v g = subst (λ (o : Result Drawing). Gave o y v) (sym (begun .rest n s)) (g (begin n s a b c) held)
@@ -71,8 +71,8 @@ module _ (f : List ℕ) (o : Head) (h : HeadRead f o) where
   head-refused r p q v w x = gave-refused _ x v r p (subst (HeadRead f) q h) w
 
   module _ (n s at : ℕ) (q : o ≡ head.Given n s at) where
-    pub head-going : (x : Arrays) (e : List ℕ) → Blank x e → Headed f at n x e
-    head-going x e b = let t : HeadRead f (head.Given n s at) = subst (HeadRead f) q h in record { blank = b; place = t .2; low = t .0; high = t .1 }
+    pub head-going : (t : List ℕ) → t ≡ zeros → Headed f at n t
+    head-going t b = let y : HeadRead f (head.Given n s at) = subst (HeadRead f) q h in record { blank = b; place = y .2; low = y .0; high = y .1 }
 
     pub head-gave : (x : Arrays) (v : Added) → Gave (readPoints n s (cursor f at)) x v → Gave (readOrder f) x v
     head-gave x v g = let t : HeadRead f (head.Given n s at) = subst (HeadRead f) q h in subst (λ (o : Result Drawing). Gave o x v) (sym (t .3)) g

@@ -41,9 +41,8 @@ pub record Reached (f : List ℕ) (at points : ℕ) (d : Drawing) (a : Arrays) (
   pub rest : readRest points d (cursor f at) ≡ readRest left new (cursor f place)
 
 -- the same of every drawing that the arrays held before the loop
-pub record Turn (f : List ℕ) (at points : ℕ) (a₀ : Arrays) (c₀ : Counts) (a : Arrays) (c : Counts) (e : List ℕ) (place left : ℕ) : Type 0 where
+pub record Turn (f : List ℕ) (at points : ℕ) (a₀ : Arrays) (c₀ : Counts) (a : Arrays) (c : Counts) (place left : ℕ) : Type 0 where
   pub within : place ≤ length f
-  pub room : length e ≡ 65536
   pub reached : (d : Drawing) → Holds d a₀ c₀ → Reached f at points d a c place left
 
 -- one is less
@@ -51,25 +50,24 @@ pub falls : {left : ℕ} → 0 < left → left - 1 < left
 falls h = omega arith
 
 -- before the first turn
-pub turn-first : {f : List ℕ} {at : ℕ} (points : ℕ) {a : Arrays} {c : Counts} {e : List ℕ} → Going f at a c e → Turn f at points a c a c e at points
-turn-first points g = record { within = g .place; room = g .room; reached = λ d h. record { new = d; holds = h; rest = refl } }
+pub turn-first : {f : List ℕ} {at : ℕ} (points : ℕ) {a : Arrays} {c : Counts} → Going f at a c → Turn f at points a c a c at points
+turn-first points g = record { within = g .place; reached = λ d h. record { new = d; holds = h; rest = refl } }
 
-module _ {f : List ℕ} {at points : ℕ} {a₀ : Arrays} {c₀ : Counts} {a : Arrays} {c : Counts} {e : List ℕ} {place left : ℕ} (t : Turn f at points a₀ c₀ a c e place left) where
+module _ {f : List ℕ} {at points : ℕ} {a₀ : Arrays} {c₀ : Counts} {a : Arrays} {c : Counts} {place left : ℕ} (t : Turn f at points a₀ c₀ a c place left) where
   -- a record can be read
-  pub turn-ready : Ready a₀ c₀ → Going f place a c e
-  turn-ready y = let x = t .reached (y .d) (y .holds) in record { ready = record { d = x .new; holds = x .holds }; place = t .within; room = t .room }
+  pub turn-ready : Ready a₀ c₀ → Going f place a c
+  turn-ready y = let x = t .reached (y .d) (y .holds) in record { ready = record { d = x .new; holds = x .holds }; place = t .within }
 
   -- a turn: the records of the points that are left are this one's and the others
   module _ (more : 0 < left) (a′ : Arrays) where
     one-less : left ≡ suc (left - 1)
     one-less = omega arith
 
-    pub turn-next : (e′ : List ℕ) → length e′ ≡ 65536 → (o : Step) → PointRead f place a c a′ o → (c′ : Counts) (next : ℕ) → o ≡ step.Given c′ next → Turn f at points a₀ c₀ a′ c′ e′ next (left - 1)
-    turn-next e′ l o h c′ next q =
+    pub turn-next : (o : Step) → PointRead f place a c a′ o → (c′ : Counts) (next : ℕ) → o ≡ step.Given c′ next → Turn f at points a₀ c₀ a′ c′ next (left - 1)
+    turn-next o h c′ next q =
         let p : PointRead f place a c a′ (step.Given c′ next) = subst (PointRead f place a c a′) q h in
         record {
           within = p .0;
-          room = l;
           reached = λ d h.
               let x = t .reached d h in
               let y = p .1 (x .new) (x .holds) in

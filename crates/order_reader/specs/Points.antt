@@ -1,26 +1,43 @@
 -- The records of the points behind point 3, on the arrays. The arrays may hold a drawing in more ways than one, so each claim is of every drawing that they hold.
-use Prim.Native.Nat.{ℕ, suc, _≤_}
+use Prim.Native.Nat.{ℕ, suc, _+_, _*_, _<_, _≤_}
 use mathlib.Core.Path.{_≡_}
 use mathlib.Core.List.{List}
-use lib.ListN.{length}
+use lib.ListN.{length, drop}
+use Rattle.rules.specs.declared.Refusal.{Refusal}
 use Rattle.rules.specs.Refusals.{Result, good, refused, answer}
 use Rattle.rules.specs.Points.{Drawing}
+use Rattle.rules.specs.Adding.{add}
+use Rattle.rules.specs.Records.{wordsIn}
 use Rattle.rules.specs.OrderFile.{readRest}
 use Rattle.links.specs.declared.Added.{Added}
 use Rattle.links.specs.declared.Counts.{Counts}
 use Rattle.links.specs.Arrays.{Arrays}
 use Rattle.stored.specs.Adding.{Holds}
 use Rattle.adding.specs.Calls.{Ready}
-use Rattle.opening.specs.Zeros.{Zeros}
+use Rattle.opening.specs.Zeros.{zeros}
 use Rattle.order_reader.specs.declared.Step.{Step}
 use Rattle.order_reader.specs.declared.Step.the-variants as step
 use Rattle.records.specs.Cursors.{cursor}
 
--- arrays that hold a drawing, an offset of the file, and room for the entries of a record
-pub record Going (f : List ℕ) (at : ℕ) (a : Arrays) (c : Counts) (e : List ℕ) : Type 0 where
+-- arrays that hold a drawing, and an offset of the file
+pub record Going (f : List ℕ) (at : ℕ) (a : Arrays) (c : Counts) : Type 0 where
   pub ready : Ready a c
   pub place : at ≤ length f
-  pub room : length e ≡ 65536
+
+-- the same, with more entries at the offset than a boundary has points
+pub record Long (f : List ℕ) (from count : ℕ) (a : Arrays) (c : Counts) : Type 0 where
+  pub ready : Ready a c
+  pub there : from + 2 * count ≤ length f
+  pub many : 1024 < count
+
+-- r is what refuses
+pub record RefusedBy {A : Type 0} (o : Result A) (r : Refusal) : Type 0 where
+  pub place : ℕ
+  pub is : o ≡ refused r place
+
+-- a call with those entries is refused by r
+abbrev pub LongRead : List ℕ → ℕ → ℕ → Arrays → Counts → Refusal → Type 0
+LongRead f from count a c r = (d : Drawing) → Holds d a c → RefusedBy (add d (wordsIn count (drop from f))) r
 
 -- a point was added to the drawing d: the arrays hold the drawing with it, and the records behind `next` are left
 pub record Went (f : List ℕ) (at : ℕ) (d : Drawing) (a : Arrays) (c : Counts) (next : ℕ) : Type 0 where
@@ -44,14 +61,9 @@ pub record Gave (o : Result Drawing) (a : Arrays) (r : Added) : Type 0 where
 abbrev pub RestRead : List ℕ → ℕ → ℕ → Arrays → Counts → Arrays → Added → Type 0
 RestRead f at k a c a′ r = (d : Drawing) → Holds d a c → Gave (readRest k d (cursor f at)) a′ r
 
--- arrays of zeros, and room for the entries of a record
-pub record Blank (a : Arrays) (e : List ℕ) : Type 0 where
-  pub zeros : Zeros a
-  pub room : length e ≡ 65536
-
--- the same, behind the header of a file
-pub record Headed (f : List ℕ) (at n : ℕ) (a : Arrays) (e : List ℕ) : Type 0 where
-  pub blank : Blank a e
+-- a table of zeros, behind the header of a file
+pub record Headed (f : List ℕ) (at n : ℕ) (t : List ℕ) : Type 0 where
+  pub blank : t ≡ zeros
   pub place : at ≤ length f
   pub low : 3 ≤ n
   pub high : n ≤ 1024

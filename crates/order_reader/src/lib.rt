@@ -1,5 +1,6 @@
-// Reads an order file into the ten lent arrays, record by record; the first refusal is the answer.
-// For `panel`: it asks for arrays of zeros, and for room for the entries of one record.
+// Reads an order file into the lent table, record by record; the first refusal is the answer.
+// For `panel`: it asks for a table of zeros.
+use judging::judge_entry;
 use links::Added;
 use links::Counts;
 use order_start::Head;
@@ -7,15 +8,21 @@ use order_start::Start;
 use order_start::read_first;
 use order_start::read_head;
 use records::Entries;
+use records::copy_numbers;
 use records::read_end;
 use records::read_entries;
 use rules::Answer;
 use rules::Refusal;
+use tables::OWNER;
+use tables::YS;
+use words::word_at;
 ghost use mathlib.Core.Path.{_≡_};
+ghost use lib.ListN.{length};
 ghost use Rattle.rules.specs.OrderFile.{readPoints, readOrder};
-ghost use Rattle.links.specs.Arrays.{arraysOf};
+ghost use Rattle.tables.specs.Tables.{Full, arraysIn};
+ghost use Rattle.opening.specs.Zeros.{zeros};
 ghost use Rattle.records.specs.Cursors.{cursor};
-ghost use Rattle.order_reader.specs.Points.{Going, PointRead, RestRead, Blank, Headed, Gave};
+ghost use Rattle.order_reader.specs.Points.{Long, LongRead, Going, PointRead, RestRead, Headed, Gave};
 
 // One point more: the numbers with it, and the offset behind its record.
 enum Step {
@@ -23,55 +30,44 @@ enum Step {
     Refused(Refusal, usize),
 }
 
-// One point more: its record, tested and added as a call adds; its refusals stand at its mark.
-fn read_point(
-    f: &[u8],
-    at: usize,
-    next: &mut [u16; 1024],
-    gap: &mut [u16; 1024],
-    owner: &mut [u16; 1024],
-    ys: &mut [u16; 1024],
-    dls: &mut [u16; 1024],
-    drs: &mut [u16; 1024],
-    hs: &mut [u16; 1024],
-    words: &mut [u16; 3072],
-    later: &mut [u16; 3072],
-    bends: &mut [u16; 3072],
-    c: Counts,
-    e: &mut [u16],
-) -> Step
-    requires { ⌜ Going (now f) at (arraysOf (now next) (now gap) (now owner) (now ys) (now dls) (now drs) (now hs) (now words) (now later) (now bends)) c (now e) ⌝ }
-    ensures { λ r. ⌜
-        PointRead (now (f .entry)) at
-        (arraysOf (now (next .entry)) (now (gap .entry)) (now (owner .entry)) (now (ys .entry)) (now (dls .entry)) (now (drs .entry)) (now (hs .entry)) (now (words .entry)) (now (later .entry)) (now (bends .entry))) c
-        (arraysOf (now (next .exit)) (now (gap .exit)) (now (owner .exit)) (now (ys .exit)) (now (dls .exit)) (now (drs .exit)) (now (hs .exit)) (now (words .exit)) (now (later .exit)) (now (bends .exit))) r
-        ⌝ }
+// The refusal of a record with more entries than a boundary has points, at `from` of the file: 21, then entry by entry 6 before 7, then 8.
+fn judge_long(f: &[u8], from: usize, count: usize, table: &[u16], c: Counts) -> Refusal
+    requires { ⌜ Long (now f) from count (arraysIn (now table)) c × Full (now table) ⌝ }
+    ensures { λ r. ⌜ LongRead (now (f .entry)) from count (arraysIn (now (table .entry))) c r ⌝ }
 {
-    match read_entries(f, at, e) {
+    if c.n <= c.k {
+        return Refusal::Finished;
+    }
+    let mut i = 0;
+    while i < count {
+        let e = word_at(f, from + 2 * i);
+        let said = judge_entry(e, &table[OWNER..YS], c.k, i);
+        if let Answer::Refused(r, _) = said {
+            return r;
+        }
+        i += 1;
+    }
+    Refusal::NoRun
+}
+
+// One point more: its record, tested and added as a call adds; its refusals stand at its mark.
+fn read_point(f: &[u8], at: usize, table: &mut [u16; 16384], c: Counts, e: &mut [u16]) -> Step
+    requires { ⌜ Going (now f) at (arraysIn (now table)) c × (length (now e) ≡ 1024) ⌝ }
+    ensures { λ r. ⌜ PointRead (now (f .entry)) at (arraysIn (now (table .entry))) c (arraysIn (now (table .exit))) r ⌝ }
+{
+    match read_entries(f, at) {
         Entries::Refused(r, p) => Step::Refused(r, p),
-        Entries::Given {
-            count,
-            next: behind,
-        } => {
-            let added = adding::add(
-                next,
-                gap,
-                owner,
-                ys,
-                dls,
-                drs,
-                hs,
-                words,
-                later,
-                bends,
-                c,
-                &e[..count],
-            );
+        Entries::Given { count, from, next } => {
+            if 1024 < count {
+                return Step::Refused(judge_long(f, from, count, table, c), at);
+            }
+            copy_numbers(f, from, count, e);
+            let added = adding::add(table, c, &e[..count]);
             let answer = added.answer;
             let counts = added.counts;
             match answer {
                 Answer::Refused(r, _) => Step::Refused(r, at),
-                Answer::Accepted => Step::Given { counts, at: behind },
+                Answer::Accepted => Step::Given { counts, at: next },
             }
         }
     }
@@ -94,50 +90,16 @@ fn refuse(r: Refusal, p: usize) -> Added
 }
 
 // The records of so many points more, then the end.
-fn read_rest(
-    f: &[u8],
-    at: usize,
-    points: usize,
-    next: &mut [u16; 1024],
-    gap: &mut [u16; 1024],
-    owner: &mut [u16; 1024],
-    ys: &mut [u16; 1024],
-    dls: &mut [u16; 1024],
-    drs: &mut [u16; 1024],
-    hs: &mut [u16; 1024],
-    words: &mut [u16; 3072],
-    later: &mut [u16; 3072],
-    bends: &mut [u16; 3072],
-    c: Counts,
-    e: &mut [u16],
-) -> Added
-    requires { ⌜ Going (now f) at (arraysOf (now next) (now gap) (now owner) (now ys) (now dls) (now drs) (now hs) (now words) (now later) (now bends)) c (now e) ⌝ }
-    ensures { λ r. ⌜
-        RestRead (now (f .entry)) at points
-        (arraysOf (now (next .entry)) (now (gap .entry)) (now (owner .entry)) (now (ys .entry)) (now (dls .entry)) (now (drs .entry)) (now (hs .entry)) (now (words .entry)) (now (later .entry)) (now (bends .entry))) c
-        (arraysOf (now (next .exit)) (now (gap .exit)) (now (owner .exit)) (now (ys .exit)) (now (dls .exit)) (now (drs .exit)) (now (hs .exit)) (now (words .exit)) (now (later .exit)) (now (bends .exit))) r
-        ⌝ }
+fn read_rest(f: &[u8], at: usize, points: usize, table: &mut [u16; 16384], c: Counts) -> Added
+    requires { ⌜ Going (now f) at (arraysIn (now table)) c ⌝ }
+    ensures { λ r. ⌜ RestRead (now (f .entry)) at points (arraysIn (now (table .entry))) c (arraysIn (now (table .exit))) r ⌝ }
 {
     let mut place = at;
     let mut left = points;
     let mut counts = c;
+    let mut e = [0u16; 1024];
     while 0 < left {
-        match read_point(
-            f,
-            place,
-            next,
-            gap,
-            owner,
-            ys,
-            dls,
-            drs,
-            hs,
-            words,
-            later,
-            bends,
-            counts,
-            e,
-        ) {
+        match read_point(f, place, table, counts, &mut e) {
             Step::Refused(r, p) => {
                 return refuse(r, p);
             }
@@ -158,30 +120,11 @@ fn read_rest(
 }
 
 // Points 1 to n, behind the header of a file with n points and the scale s.
-fn read_points(
-    f: &[u8],
-    at: usize,
-    n: usize,
-    s: usize,
-    next: &mut [u16; 1024],
-    gap: &mut [u16; 1024],
-    owner: &mut [u16; 1024],
-    ys: &mut [u16; 1024],
-    dls: &mut [u16; 1024],
-    drs: &mut [u16; 1024],
-    hs: &mut [u16; 1024],
-    words: &mut [u16; 3072],
-    later: &mut [u16; 3072],
-    bends: &mut [u16; 3072],
-    e: &mut [u16],
-) -> Added
-    requires { ⌜ Headed (now f) at n (arraysOf (now next) (now gap) (now owner) (now ys) (now dls) (now drs) (now hs) (now words) (now later) (now bends)) (now e) ⌝ }
-    ensures { λ r. ⌜
-        Gave (readPoints n s (cursor (now (f .entry)) at))
-        (arraysOf (now (next .exit)) (now (gap .exit)) (now (owner .exit)) (now (ys .exit)) (now (dls .exit)) (now (drs .exit)) (now (hs .exit)) (now (words .exit)) (now (later .exit)) (now (bends .exit))) r
-        ⌝ }
+fn read_points(f: &[u8], at: usize, n: usize, s: usize, table: &mut [u16; 16384]) -> Added
+    requires { ⌜ Headed (now f) at n (now table) ⌝ }
+    ensures { λ r. ⌜ Gave (readPoints n s (cursor (now (f .entry)) at)) (arraysIn (now (table .exit))) r ⌝ }
 {
-    match read_first(f, at, e) {
+    match read_first(f, at) {
         Start::Refused(r, p) => refuse(r, p),
         Start::Given {
             a,
@@ -189,21 +132,7 @@ fn read_points(
             c,
             at: behind,
         } => {
-            opening::open_in(
-                next,
-                gap,
-                owner,
-                ys,
-                dls,
-                drs,
-                hs,
-                words,
-                later,
-                bends,
-                a,
-                b,
-                c,
-            );
+            opening::open_in(table, a, b, c);
             let counts = Counts {
                 n,
                 s,
@@ -212,67 +141,18 @@ fn read_points(
                 lines: 3,
             };
             let points = n - 3;
-            read_rest(
-                f,
-                behind,
-                points,
-                next,
-                gap,
-                owner,
-                ys,
-                dls,
-                drs,
-                hs,
-                words,
-                later,
-                bends,
-                counts,
-                e,
-            )
+            read_rest(f, behind, points, table, counts)
         }
     }
 }
 
-// Reads an order file into arrays of zeros; e is room for the entries of one record.
-// After a refusal the arrays hold anything: throw them away.
-pub fn read_order(
-    f: &[u8],
-    next: &mut [u16; 1024],
-    gap: &mut [u16; 1024],
-    owner: &mut [u16; 1024],
-    ys: &mut [u16; 1024],
-    dls: &mut [u16; 1024],
-    drs: &mut [u16; 1024],
-    hs: &mut [u16; 1024],
-    words: &mut [u16; 3072],
-    later: &mut [u16; 3072],
-    bends: &mut [u16; 3072],
-    e: &mut [u16],
-) -> Added
-    requires { ⌜ Blank (arraysOf (now next) (now gap) (now owner) (now ys) (now dls) (now drs) (now hs) (now words) (now later) (now bends)) (now e) ⌝ }
-    ensures { λ r. ⌜
-        Gave (readOrder (now (f .entry)))
-        (arraysOf (now (next .exit)) (now (gap .exit)) (now (owner .exit)) (now (ys .exit)) (now (dls .exit)) (now (drs .exit)) (now (hs .exit)) (now (words .exit)) (now (later .exit)) (now (bends .exit))) r
-        ⌝ }
+// Reads an order file into a table of zeros. After a refusal it holds anything: throw it away.
+pub fn read_order(f: &[u8], table: &mut [u16; 16384]) -> Added
+    requires { ⌜ now table ≡ zeros ⌝ }
+    ensures { λ r. ⌜ Gave (readOrder (now (f .entry))) (arraysIn (now (table .exit))) r ⌝ }
 {
     match read_head(f) {
         Head::Refused(r, p) => refuse(r, p),
-        Head::Given { n, s, at } => read_points(
-            f,
-            at,
-            n,
-            s,
-            next,
-            gap,
-            owner,
-            ys,
-            dls,
-            drs,
-            hs,
-            words,
-            later,
-            bends,
-            e,
-        ),
+        Head::Given { n, s, at } => read_points(f, at, n, s, table),
     }
 }

@@ -1,5 +1,5 @@
 // The beginning of an order file: the header, the scale, and the records of points 1 to 3.
-// For `order_reader`: it asks that the offset lies in the file, and for room for the entries of one record.
+// For `order_reader`: it asks that the offset lies in the file.
 use entries::point_of;
 use records::Entries;
 use records::Number;
@@ -73,18 +73,18 @@ pub fn read_head(f: &[u8]) -> Head
 }
 
 // Point 3's record, whose entries are points 1 and 2, else 4; a is the entry of point 2.
-fn read_third(f: &[u8], at: usize, e: &mut [u16], a: u16) -> Start
-    requires { ⌜ (at ≤ length (now f)) × (length (now e) ≡ 65536) × (pointIn a ≡ 1) ⌝ }
+fn read_third(f: &[u8], at: usize, a: u16) -> Start
+    requires { ⌜ (at ≤ length (now f)) × (pointIn a ≡ 1) ⌝ }
     ensures { λ r. ⌜ StartRead (now (f .entry)) (thirdFrom (entryOf a ∷ []) (cursor (now (f .entry)) at)) r ⌝ }
 {
-    match read_entries(f, at, e) {
+    match read_entries(f, at) {
         Entries::Refused(r, p) => Start::Refused(r, p),
-        Entries::Given { count, next } => {
+        Entries::Given { count, from, next } => {
             if count != 2 {
                 return Start::Refused(Refusal::OtherStart, at);
             }
-            let b = e[0];
-            let c = e[1];
+            let b = word_at(f, from);
+            let c = word_at(f, from + 2);
             if point_of(b) != 1 {
                 return Start::Refused(Refusal::OtherStart, at);
             }
@@ -97,37 +97,41 @@ fn read_third(f: &[u8], at: usize, e: &mut [u16], a: u16) -> Start
 }
 
 // Point 2's record, whose entry is point 1, else 4; then point 3's.
-fn read_second(f: &[u8], at: usize, e: &mut [u16]) -> Start
-    requires { ⌜ (at ≤ length (now f)) × (length (now e) ≡ 65536) ⌝ }
+fn read_second(f: &[u8], at: usize) -> Start
+    requires { ⌜ at ≤ length (now f) ⌝ }
     ensures { λ r. ⌜ StartRead (now (f .entry)) (secondFrom (cursor (now (f .entry)) at)) r ⌝ }
 {
-    match read_entries(f, at, e) {
+    match read_entries(f, at) {
         Entries::Refused(r, p) => Start::Refused(r, p),
-        Entries::Given { count, next } => {
+        Entries::Given { count, from, next } => {
             if count != 1 {
                 return Start::Refused(Refusal::OtherStart, at);
             }
-            let a = e[0];
+            let a = word_at(f, from);
             if point_of(a) != 1 {
                 return Start::Refused(Refusal::OtherStart, at);
             }
-            read_third(f, next, e, a)
+            read_third(f, next, a)
         }
     }
 }
 
 // Point 1's record, without an entry, else 4; then those of points 2 and 3.
-pub fn read_first(f: &[u8], at: usize, e: &mut [u16]) -> Start
-    requires { ⌜ (at ≤ length (now f)) × (length (now e) ≡ 65536) ⌝ }
+pub fn read_first(f: &[u8], at: usize) -> Start
+    requires { ⌜ at ≤ length (now f) ⌝ }
     ensures { λ r. ⌜ StartRead (now (f .entry)) (pointsFrom (cursor (now (f .entry)) at)) r ⌝ }
 {
-    match read_entries(f, at, e) {
+    match read_entries(f, at) {
         Entries::Refused(r, p) => Start::Refused(r, p),
-        Entries::Given { count, next } => {
+        Entries::Given {
+            count,
+            from: _,
+            next,
+        } => {
             if count != 0 {
                 return Start::Refused(Refusal::OtherStart, at);
             }
-            read_second(f, next, e)
+            read_second(f, next)
         }
     }
 }

@@ -19,10 +19,11 @@ use Rattle.rules.specs.Adding.{newLines}
 use Rattle.rules.specs.Records.{bytesOf, written, orderHead, scaleShape, pointEntries, endShape}
 use Rattle.rules.specs.OrderFile.{entriesOf, orderScale, orderPoints, writeOrder}
 use Rattle.links.specs.declared.Counts.{Counts}
+use Rattle.links.specs.Arrays.{Arrays, Stores}
 use Rattle.exchange.specs.Built.{Built, begun, added, Whole}
 use Rattle.exchange.specs.Entries.{ends, entryFor, lengthened}
 use Rattle.order_writer.specs.Pasting.{bytes-append}
-use Rattle.order_writer.specs.Writing.{countOf, entryWords, pointWords, pointsWords, headWords, orderWords, LinesStored}
+use Rattle.order_writer.specs.Writing.{countOf, entryWords, pointWords, pointsWords, headWords, orderWords}
 
 -- ---- later points rise
 
@@ -175,14 +176,14 @@ head-are n s rest = go (eqb s 1)
     go false = refl
 
 -- WHAT IS WRITTEN from the stored lines of a finished drawing is its order file.
-pub order-is : {d : Drawing} {words later : List ℕ} {c : Counts} → Whole d → LinesStored d words later c → bytesOf (orderWords words later c) ≡ writeOrder d
+pub order-is : {d : Drawing} {a : Arrays} {c : Counts} → Whole d → Stores d a c → bytesOf (orderWords (a .words) (a .later) c) ≡ writeOrder d
 unfolding writeOrder
-order-is {d} {words} {later} {c} h t =
-    let stored : Kept words later 0 (d .lines) = kept words later 0 (d .lines) (record { later = 0; earlier = 0; bend = Straight; cut = false }) (λ i b. rw (zero-add i) (t .later i b)) (λ i b. rw (zero-add i) (t .entry i b)) in
+order-is {d} {a} {c} h t =
+    let stored : Kept (a .words) (a .later) 0 (d .lines) = kept (a .words) (a .later) 0 (d .lines) (record { later = 0; earlier = 0; bend = Straight; cut = false }) (λ i b. rw (zero-add i) (t .later i b)) (λ i b. rw (zero-add i) (t .entry i b)) in
     let up = from-rising 1 (d .k) (d .lines) (rising (h .reached .built)) in
-    let points = pointsWords words later (c .lines) (c .n) 1 0 in
+    let points = pointsWords (a .words) (a .later) (c .lines) (c .n) 1 0 in
     let points-is : bytesOf points ≡ orderPoints (c .n) 1 (d .lines) =
-    points-are words later (c .n) 1 0 (c .lines) (d .lines) (d .lines) (omega (arith, t .lines)) stored up (λ q b. refl) in
+    points-are (a .words) (a .later) (c .n) 1 0 (c .lines) (d .lines) (d .lines) (omega (arith, t .lines)) stored up (λ q b. refl) in
     bytes-append (headWords (c .n) (c .s)) (points ++ (0x454E ∷ [])) ∙
     head-are (c .n) (c .s) (bytesOf (points ++ (0x454E ∷ []))) ∙
     ap (λ (l : List ℕ). written orderHead (c .n ∷ []) ++ (orderScale (c .s) ++ l)) (bytes-append points (0x454E ∷ []) ∙ ap (λ (l : List ℕ). l ++ written endShape []) points-is) ∙

@@ -1,5 +1,5 @@
 -- What the order writer writes, from the stored lines: numbers of 16 bits, in order.
-use Prim.Native.Nat.{ℕ, zero, suc, _+_, _-_, _<_, _≤_}
+use Prim.Native.Nat.{ℕ, zero, suc, _+_, _-_, _≤_}
 use mathlib.Core.Path.{_≡_}
 use mathlib.Core.List.{List, [], _∷_, _++_}
 use lib.ListN.{length, getD}
@@ -7,7 +7,7 @@ use lib.Dec.{eqb}
 use Rattle.rules.specs.Basics.{if_then_else_}
 use Rattle.rules.specs.Refusals.{good}
 use Rattle.rules.specs.Entries.{entryOf, wordOf}
-use Rattle.rules.specs.Points.{Drawing, lineAt}
+use Rattle.rules.specs.Points.{Drawing}
 use Rattle.rules.specs.OrderFile.{writeOrder}
 use Rattle.rules.specs.Output.{filled}
 use Rattle.links.specs.declared.Counts.{Counts}
@@ -51,24 +51,11 @@ orderWords words later c = headWords (c .n) (c .s) ++ (pointsWords words later (
 
 -- ---- what the writer asks, and what it leaves
 
--- the two lists and the numbers store the lines of the drawing d
-pub record LinesStored (d : Drawing) (words laters : List ℕ) (c : Counts) : Type 0 where
-  pub n : c .n ≡ d .n
-  pub s : c .s ≡ d .s
-  pub k : c .k ≡ d .k
-  pub lines : c .lines ≡ length (d .lines)
-  pub later : (e : ℕ) → e < length (d .lines) → getD laters e 0 ≡ lineAt d e .later
-  pub entry : (e : ℕ) → e < length (d .lines) → entryOf (getD words e 0) ≡ record { point = lineAt d e .earlier; cut = lineAt d e .cut }
-
--- as the arrays that store the drawing do
-pub lines-stored : {d : Drawing} {a : Arrays} {c : Counts} → Stores d a c → LinesStored d (a .words) (a .later) c
-lines-stored t = record { n = t .n; s = t .s; k = t .k; lines = t .lines; later = t .later; entry = t .entry }
-
--- a finished drawing's lines are stored, and its order file has room
-pub record OrderWritable (out words later : List ℕ) (c : Counts) : Type 0 where
+-- a finished drawing is stored, and its order file has room
+pub record OrderWritable (out : List ℕ) (a : Arrays) (c : Counts) : Type 0 where
   pub d : Drawing
   pub whole : Whole d
-  pub stored : LinesStored d words later c
+  pub stored : Stores d a c
   pub room : length (writeOrder d) ≤ length out
 
 -- the order file of d stands at the start of the buffer, of which the rest stays; r is its length

@@ -1,15 +1,20 @@
 // The order writer: the order file of a finished drawing, in one pass over its stored lines.
 // For `panel`: it asks for a finished drawing and room in the buffer, which are tested there.
 use links::Counts;
+use tables::BENDS;
+use tables::LATER;
+use tables::WORDS;
 ghost use mathlib.Core.Path.{_≡_};
 ghost use Prim.Native.Nat.{_+_, _-_, _*_, _<_, _≤_};
 ghost use mathlib.Core.List.{[], _∷_};
 ghost use lib.ListN.{length};
 ghost use Rattle.rules.specs.Points.{Drawing};
 ghost use Rattle.rules.specs.OrderFile.{writeOrder};
+ghost use Rattle.links.specs.Arrays.{Stores};
+ghost use Rattle.tables.specs.Tables.{Full, arraysIn};
 ghost use Rattle.exchange.specs.Built.{Whole};
 ghost use Rattle.order_writer.specs.Pasting.{Pasted};
-ghost use Rattle.order_writer.specs.Writing.{again, countOf, entryWords, pointWords, pointsWords, headWords, LinesStored, OrderWritable, OrderWritten};
+ghost use Rattle.order_writer.specs.Writing.{again, countOf, entryWords, pointWords, pointsWords, headWords, OrderWritable, OrderWritten};
 
 // An entry, put together again from its parts.
 fn joined(w: u16) -> u16
@@ -19,8 +24,8 @@ fn joined(w: u16) -> u16
 }
 
 // How many lines in succession, from the line `from` on, have p as their later point.
-fn count_lines(later: &[u16; 3072], p: usize, from: usize, lines: usize) -> usize
-    requires { ⌜ (from ≤ lines) × (lines ≤ 3072) ⌝ }
+fn count_lines(later: &[u16], p: usize, from: usize, lines: usize) -> usize
+    requires { ⌜ (length (now later) ≡ 3072) × (from ≤ lines) × (lines ≤ 3072) ⌝ }
     ensures { λ r. ⌜ r ≡ countOf (now (later .entry)) p from (lines - from) ⌝ }
 {
     let left = lines - from;
@@ -45,8 +50,8 @@ fn put_two(out: &mut [u8], at: usize, mark: u16, v: usize) -> usize
 }
 
 // Writes the entries of `count` lines, from the line `from` on.
-fn put_entries(out: &mut [u8], at: usize, words: &[u16; 3072], from: usize, count: usize) -> usize
-    requires { ⌜ (from + count ≤ 3072) × (at + 2 * count ≤ length (now out)) ⌝ }
+fn put_entries(out: &mut [u8], at: usize, words: &[u16], from: usize, count: usize) -> usize
+    requires { ⌜ (length (now words) ≡ 3072) × (from + count ≤ 3072) × (at + 2 * count ≤ length (now out)) ⌝ }
     ensures { λ r. ⌜ Pasted (now (out .entry)) at (entryWords (now (words .entry)) from count) (now (out .exit)) r ⌝ }
 {
     let mut place = at;
@@ -60,8 +65,8 @@ fn put_entries(out: &mut [u8], at: usize, words: &[u16; 3072], from: usize, coun
 }
 
 // Writes the record of a point that has `count` lines, from the line `from` on.
-fn put_point(out: &mut [u8], at: usize, words: &[u16; 3072], from: usize, count: usize) -> usize
-    requires { ⌜ (from + count ≤ 3072) × (at + 4 + 2 * count ≤ length (now out)) ⌝ }
+fn put_point(out: &mut [u8], at: usize, words: &[u16], from: usize, count: usize) -> usize
+    requires { ⌜ (length (now words) ≡ 3072) × (from + count ≤ 3072) × (at + 4 + 2 * count ≤ length (now out)) ⌝ }
     ensures { λ r. ⌜ Pasted (now (out .entry)) at (pointWords (now (words .entry)) from count) (now (out .exit)) r ⌝ }
 {
     let place = put_two(out, at, 0x5054, count);
@@ -72,12 +77,12 @@ fn put_point(out: &mut [u8], at: usize, words: &[u16; 3072], from: usize, count:
 fn put_points(
     out: &mut [u8],
     at: usize,
-    words: &[u16; 3072],
-    later: &[u16; 3072],
+    words: &[u16],
+    later: &[u16],
     n: usize,
     lines: usize,
 ) -> usize
-    requires { ⌜ (n ≤ 1024) × (lines ≤ 3072) × (at + 2 * length (pointsWords (now words) (now later) lines n 1 0) ≤ length (now out)) ⌝ }
+    requires { ⌜ (length (now words) ≡ 3072) × (length (now later) ≡ 3072) × (n ≤ 1024) × (lines ≤ 3072) × (at + 2 * length (pointsWords (now words) (now later) lines n 1 0) ≤ length (now out)) ⌝ }
     ensures { λ r. ⌜ Pasted (now (out .entry)) at (pointsWords (now (words .entry)) (now (later .entry)) lines n 1 0) (now (out .exit)) r ⌝ }
 {
     let mut place = at;
@@ -114,13 +119,20 @@ fn put_end(out: &mut [u8], at: usize) -> usize
     end
 }
 
-// Writes the order file of the finished drawing whose lines are stored. Returns the number of bytes.
-pub fn write_order(out: &mut [u8], words: &[u16; 3072], later: &[u16; 3072], c: Counts) -> usize
-    requires { ⌜ OrderWritable (now out) (now words) (now later) c ⌝ }
-    ensures { λ r. ⌜ ((d : Drawing) → Whole d → LinesStored d (now (words .entry)) (now (later .entry)) c → OrderWritten d (now (out .entry)) (now (out .exit)) r) ⌝ }
+// Writes the order file of the finished drawing that the table holds. Returns the number of bytes.
+pub fn write_order(out: &mut [u8], table: &[u16], c: Counts) -> usize
+    requires { ⌜ OrderWritable (now out) (arraysIn (now table)) c × Full (now table) ⌝ }
+    ensures { λ r. ⌜ ((d : Drawing) → Whole d → Stores d (arraysIn (now (table .entry))) c → OrderWritten d (now (out .entry)) (now (out .exit)) r) ⌝ }
 {
     let points = put_head(out, c.n, c.s);
-    let end = put_points(out, points, words, later, c.n, c.lines);
+    let end = put_points(
+        out,
+        points,
+        &table[WORDS..LATER],
+        &table[LATER..BENDS],
+        c.n,
+        c.lines,
+    );
     put_end(out, end)
 }
 

@@ -13,8 +13,7 @@ use Rattle.links.specs.declared.Counts.{Counts}
 use Rattle.links.specs.Arrays.{Arrays}
 use Rattle.stored.specs.Adding.{Holds}
 use Rattle.settling.specs.Placed.{Settled, placed-at}
-use Rattle.drawing_writer.specs.Lists.{listsOf}
-use Rattle.drawing_writer.specs.Finished.{Finished, Writable, finished-of}
+use Rattle.drawing_writer.specs.Finished.{Finished, Writable}
 use Rattle.exchange.specs.Built.{Whole}
 use Rattle.exchange.specs.DrawingRead.{length-drawing}
 use Rattle.panel.specs.declared.Written.{Written}
@@ -25,13 +24,12 @@ pub need-is : {d : Plan} {a : Arrays} {c : Counts} → Whole d → Holds d a c �
 need-is {d} w h = omega (arith, length-drawing d w, h .stores .n)
 
 -- with its settled x a whole drawing is finished
-pub finish : {d : Plan} {a : Arrays} {c : Counts} {x : List ℕ} → Whole d → Holds d a c → Settled x (a .next) (a .gap) (a .owner) (c .k) →
-    Finished d (listsOf x (a .ys) (a .dls) (a .drs) (a .hs) (a .words) (a .later) (a .bends)) c
-finish {d} w h s = finished-of h (s .long) (s .right d (h .standing .sound) (placed-at (h .stores .k) (h .stores))) (w .reached .scale) (w .full)
+pub finish : {d : Plan} {a : Arrays} {c : Counts} {x : List ℕ} → Whole d → Holds d a c → Settled x a (c .k) → Finished d x a c
+finish {d} w h s =
+    record { holds = h; long = s .long; settled = s .right d (h .standing .sound) (placed-at (h .stores .k) (h .stores)); scale = w .reached .scale; full = w .full }
 
 -- so it can be written where there is room
-pub writable : {a : Arrays} {c : Counts} {x out : List ℕ} → Ended a c → Settled x (a .next) (a .gap) (a .owner) (c .k) → 42 * c .n - 60 ≤ length out →
-    Writable (listsOf x (a .ys) (a .dls) (a .drs) (a .hs) (a .words) (a .later) (a .bends)) c out
+pub writable : {a : Arrays} {c : Counts} {x out : List ℕ} → Ended a c → Settled x a (c .k) → 42 * c .n - 60 ≤ length out → Writable x a c out
 writable e s room = record { d = e .d; finished = finish (e .whole) (e .holds) s; room = omega (arith, need-is (e .whole) (e .holds)) }
 
 -- a buffer for the longest drawing file begins with the drawing that was written into it

@@ -7,27 +7,27 @@ use borrow.Author.Tests.{lt-ltb, le-ltb}
 use Rattle.rules.specs.declared.Refusal.the-variants.{Unfinished}
 use Rattle.rules.specs.Refusals.{Result, refused, refuseIf, _>>_}
 use Rattle.rules.specs.Points.{Drawing as Plan}
+use Rattle.links.specs.declared.Counts.{Counts}
+use Rattle.links.specs.Arrays.{Arrays}
+use Rattle.stored.specs.Adding.{Holds}
 use Rattle.exchange.specs.Built.{Reached, Whole}
 use Rattle.drawing.specs.declared.Drawing.{Drawing}
-use Rattle.drawing.specs.View.{arraysIn, Is, Came}
-use Rattle.panel.specs.Outputs.{Ended, Lined}
-use Rattle.order_writer.specs.Writing.{lines-stored}
+use Rattle.tables.specs.Tables.{arraysIn}
+use Rattle.drawing.specs.View.{Came}
+use Rattle.panel.specs.Outputs.{Ended}
 
-module _ {q : Plan} {d : Drawing} (t : Is q d) where
+module _ {q : Plan} {a : Arrays} {c : Counts} (t : Holds q a c) where
   -- no file yet
-  pub early : {A : Type 0} (wanted : Result A) → d .counts .k < d .counts .n → (refuseIf (ltb (q .k) (q .n)) Unfinished 0 >> wanted) ≡ refused Unfinished 0
+  pub early : {A : Type 0} (wanted : Result A) → c .k < c .n → (refuseIf (ltb (q .k) (q .n)) Unfinished 0 >> wanted) ≡ refused Unfinished 0
   early wanted h = rw (lt-ltb (q .k) (q .n) (omega (arith, t .stores .k, t .stores .n)))
 
   -- the file
-  pub late : {A : Type 0} (wanted : Result A) → d .counts .n ≤ d .counts .k → (refuseIf (ltb (q .k) (q .n)) Unfinished 0 >> wanted) ≡ wanted
+  pub late : {A : Type 0} (wanted : Result A) → c .n ≤ c .k → (refuseIf (ltb (q .k) (q .n)) Unfinished 0 >> wanted) ≡ wanted
   late wanted h = rw (le-ltb (q .k) (q .n) (omega (arith, t .stores .k, t .stores .n)))
 
   -- a finished one is whole
-  pub whole-late : Reached q → d .counts .n ≤ d .counts .k → Whole q
+  pub whole-late : Reached q → c .n ≤ c .k → Whole q
   whole-late r h = record { reached = r; full = omega (arith, t .stores .k, t .stores .n, t .standing .ranged .room) }
 
-pub ended-late : {d : Drawing} → Came d → d .counts .n ≤ d .counts .k → Ended (arraysIn d) (d .counts)
+pub ended-late : {d : Drawing} → Came d → d .counts .n ≤ d .counts .k → Ended (arraysIn (d .table)) (d .counts)
 ended-late c h = record { d = c .plan; whole = whole-late (c .is) (c .reached) h; holds = c .is }
-
-pub lined-late : {d : Drawing} → Came d → d .counts .n ≤ d .counts .k → Lined (d .words) (d .later) (d .counts)
-lined-late c h = record { d = c .plan; whole = whole-late (c .is) (c .reached) h; stored = lines-stored (c .is .stores) }

@@ -15,7 +15,6 @@ use Rattle.links.specs.declared.Counts.{Counts}
 use Rattle.links.specs.Arrays.{Arrays}
 use Rattle.stored.specs.Adding.{Holds}
 use Rattle.exchange.specs.Built.{Whole}
-use Rattle.order_writer.specs.Writing.{LinesStored}
 use Rattle.panel.specs.declared.Written.{Written}
 use Rattle.panel.specs.declared.Written.the-variants.{Bytes, Refused}
 
@@ -40,12 +39,6 @@ pub record Ended (a : Arrays) (c : Counts) : Type 0 where
   pub d : Plan
   pub whole : Whole d
   pub holds : Holds d a c
-
--- they store the lines of one
-pub record Lined (words later : List ℕ) (c : Counts) : Type 0 where
-  pub d : Plan
-  pub whole : Whole d
-  pub stored : LinesStored d words later c
 
 -- a buffer too short for the bytes
 pub short : (before bytes : List ℕ) → length before < length bytes → Wrote before (good bytes) before (Refused OutputShort 0)

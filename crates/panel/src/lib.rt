@@ -9,13 +9,12 @@ ghost use Rattle.rules.specs.Refusals.{good, answer};
 ghost use Rattle.rules.specs.Points.{Drawing as Plan};
 ghost use Rattle.rules.specs.OrderFile.{readOrder, writeOrder};
 ghost use Rattle.rules.specs.DrawingFile.{drawingBytes, writeDrawing, drawFile, orderBack, compareBytes};
-ghost use Rattle.links.specs.Arrays.{arraysOf};
+ghost use Rattle.tables.specs.Tables.{arraysIn};
 ghost use Rattle.stored.specs.Adding.{Holds};
 ghost use Rattle.exchange.specs.Built.{Reached, Whole};
-ghost use Rattle.order_writer.specs.Writing.{LinesStored};
 ghost use Rattle.drawing.specs.View.{Is, Came};
 ghost use Rattle.drawing.specs.Opens.{Gives};
-ghost use Rattle.panel.specs.Outputs.{Wrote, Ended, Lined, wholeOrder};
+ghost use Rattle.panel.specs.Outputs.{Wrote, Ended, wholeOrder};
 
 // What a call that writes answers: the number of bytes written, or a refusal with its place.
 pub enum Written {
@@ -23,81 +22,39 @@ pub enum Written {
     Refused(Refusal, usize),
 }
 
-// Writes the drawing file of the finished drawing that the arrays hold.
-fn put_drawing(
-    out: &mut [u8],
-    next: &[u16; 1024],
-    gap: &[u16; 1024],
-    owner: &[u16; 1024],
-    ys: &[u16; 1024],
-    dls: &[u16; 1024],
-    drs: &[u16; 1024],
-    hs: &[u16; 1024],
-    words: &[u16; 3072],
-    later: &[u16; 3072],
-    bends: &[u16; 3072],
-    c: Counts,
-) -> Written
-    requires { ⌜ Ended (arraysOf (now next) (now gap) (now owner) (now ys) (now dls) (now drs) (now hs) (now words) (now later) (now bends)) c ⌝ }
-    ensures { λ r. ⌜
-        ((d : Plan) → Whole d → Holds d (arraysOf (now (next .entry)) (now (gap .entry)) (now (owner .entry)) (now (ys .entry)) (now (dls .entry)) (now (drs .entry)) (now (hs .entry)) (now (words .entry)) (now (later .entry)) (now (bends .entry))) c →
-        Wrote (now (out .entry)) (good (drawingBytes d)) (now (out .exit)) r)
-        ⌝ }
+// Writes the drawing file of the finished drawing that the table holds.
+fn put_drawing(out: &mut [u8], table: &[u16; 16384], c: Counts) -> Written
+    requires { ⌜ Ended (arraysIn (now table)) c ⌝ }
+    ensures { λ r. ⌜ ((d : Plan) → Whole d → Holds d (arraysIn (now (table .entry))) c → Wrote (now (out .entry)) (good (drawingBytes d)) (now (out .exit)) r) ⌝ }
 {
     let need = 42 * c.n - 60;
     if out.len() < need {
         return Written::Refused(Refusal::OutputShort, 0);
     }
     let mut x = [0u16; 1024];
-    settling::settle(&mut x, next, gap, owner, c.k);
-    drawing_writer::write_drawing(out, &x, ys, dls, drs, hs, words, later, bends, c);
+    settling::settle(&mut x, table, c.k);
+    drawing_writer::write_drawing(out, &x, table, c);
     Written::Bytes(need)
 }
 
-// Writes the order file of the finished drawing that the arrays hold.
-fn put_order(out: &mut [u8], words: &[u16; 3072], later: &[u16; 3072], c: Counts) -> Written
-    requires { ⌜ Lined (now words) (now later) c ⌝ }
-    ensures { λ r. ⌜
-        ((d : Plan) → Whole d → LinesStored d (now (words .entry)) (now (later .entry)) c →
-        Wrote (now (out .entry)) (good (writeOrder d)) (now (out .exit)) r)
-        ⌝ }
+// Writes its order file.
+fn put_order(out: &mut [u8], table: &[u16; 16384], c: Counts) -> Written
+    requires { ⌜ Ended (arraysIn (now table)) c ⌝ }
+    ensures { λ r. ⌜ ((d : Plan) → Whole d → Holds d (arraysIn (now (table .entry))) c → Wrote (now (out .entry)) (good (writeOrder d)) (now (out .exit)) r) ⌝ }
 {
     let length = order_writer::order_length(c);
     if out.len() < length {
         return Written::Refused(Refusal::OutputShort, 0);
     }
-    Written::Bytes(order_writer::write_order(out, words, later, c))
+    Written::Bytes(order_writer::write_order(out, table, c))
 }
 
 // The drawing of an order file, by value; with a refusal goes a drawing of zeros.
 pub fn drawing_of(order: &[u8]) -> Done
     ensures { λ r. ⌜ Gives (readOrder (now (order .entry))) r ⌝ }
 {
-    let mut next = [0u16; 1024];
-    let mut gap = [0u16; 1024];
-    let mut owner = [0u16; 1024];
-    let mut ys = [0u16; 1024];
-    let mut dls = [0u16; 1024];
-    let mut drs = [0u16; 1024];
-    let mut hs = [0u16; 1024];
-    let mut words = [0u16; 3072];
-    let mut later = [0u16; 3072];
-    let mut bends = [0u16; 3072];
-    let mut entries = [0u16; 65536];
-    let read = order_reader::read_order(
-        order,
-        &mut next,
-        &mut gap,
-        &mut owner,
-        &mut ys,
-        &mut dls,
-        &mut drs,
-        &mut hs,
-        &mut words,
-        &mut later,
-        &mut bends,
-        &mut entries,
-    );
+    let mut table = [0u16; 16384];
+    let read = order_reader::read_order(order, &mut table);
     let counts = read.counts;
     let answer = read.answer;
     let Answer::Accepted = answer else {
@@ -106,19 +63,7 @@ pub fn drawing_of(order: &[u8]) -> Done
             drawing: drawing::no_drawing(),
         };
     };
-    let drawing = Drawing {
-        counts,
-        next,
-        gap,
-        owner,
-        ys,
-        dls,
-        drs,
-        hs,
-        words,
-        later,
-        bends,
-    };
+    let drawing = Drawing { counts, table };
     Done { answer, drawing }
 }
 
@@ -131,30 +76,7 @@ pub fn drawing_file(d: Drawing, out: &mut [u8]) -> Written
     if c.k < c.n {
         return Written::Refused(Refusal::Unfinished, 0);
     }
-    let next = d.next;
-    let gap = d.gap;
-    let owner = d.owner;
-    let ys = d.ys;
-    let dls = d.dls;
-    let drs = d.drs;
-    let hs = d.hs;
-    let words = d.words;
-    let later = d.later;
-    let bends = d.bends;
-    put_drawing(
-        out,
-        &next,
-        &gap,
-        &owner,
-        &ys,
-        &dls,
-        &drs,
-        &hs,
-        &words,
-        &later,
-        &bends,
-        c,
-    )
+    put_drawing(out, &d.table, c)
 }
 
 // Its order file, in the same manner.
@@ -166,21 +88,20 @@ pub fn order_file(d: Drawing, out: &mut [u8]) -> Written
     if numbers.k < numbers.n {
         return Written::Refused(Refusal::Unfinished, 0);
     }
-    let words = d.words;
-    let later = d.later;
-    put_order(out, &words, &later, numbers)
+    put_order(out, &d.table, numbers)
 }
 
 // Draws an order file: its drawing file, or the refusal of document 01.
 pub fn draw(order: &[u8], out: &mut [u8]) -> Written
     ensures { λ r. ⌜ Wrote (now (out .entry)) (drawFile (now (order .entry))) (now (out .exit)) r ⌝ }
 {
-    let done = drawing_of(order);
-    let d = done.drawing;
-    let answer = done.answer;
+    let mut table = [0u16; 16384];
+    let given = order_reader::read_order(order, &mut table);
+    let c = given.counts;
+    let answer = given.answer;
     match answer {
         Answer::Refused(r, p) => Written::Refused(r, p),
-        Answer::Accepted => drawing_file(d, out),
+        Answer::Accepted => put_drawing(out, &table, c),
     }
 }
 
@@ -204,43 +125,14 @@ fn compare(a: &[u8], b: &[u8]) -> Answer
     Answer::Accepted
 }
 
-// Compares a file with the drawing file of the finished drawing that the arrays hold.
-fn compare_drawing(
-    file: &[u8],
-    next: &[u16; 1024],
-    gap: &[u16; 1024],
-    owner: &[u16; 1024],
-    ys: &[u16; 1024],
-    dls: &[u16; 1024],
-    drs: &[u16; 1024],
-    hs: &[u16; 1024],
-    words: &[u16; 3072],
-    later: &[u16; 3072],
-    bends: &[u16; 3072],
-    c: Counts,
-) -> Answer
-    requires { ⌜ Ended (arraysOf (now next) (now gap) (now owner) (now ys) (now dls) (now drs) (now hs) (now words) (now later) (now bends)) c ⌝ }
-    ensures { λ r. ⌜
-        ((d : Plan) → Whole d → Holds d (arraysOf (now (next .entry)) (now (gap .entry)) (now (owner .entry)) (now (ys .entry)) (now (dls .entry)) (now (drs .entry)) (now (hs .entry)) (now (words .entry)) (now (later .entry)) (now (bends .entry))) c →
-        r ≡ answer (compareBytes 0 (now (file .entry)) (drawingBytes d)))
-        ⌝ }
+// Compares a file with the drawing file of the finished drawing that the table holds.
+fn compare_drawing(file: &[u8], table: &[u16; 16384], c: Counts) -> Answer
+    requires { ⌜ Ended (arraysIn (now table)) c ⌝ }
+    ensures { λ r. ⌜ ((d : Plan) → Whole d → Holds d (arraysIn (now (table .entry))) c → r ≡ answer (compareBytes 0 (now (file .entry)) (drawingBytes d))) ⌝ }
 {
     let mut drawn = [0u8; 42948];
     let need = 42 * c.n - 60;
-    put_drawing(
-        &mut drawn,
-        next,
-        gap,
-        owner,
-        ys,
-        dls,
-        drs,
-        hs,
-        words,
-        later,
-        bends,
-        c,
-    );
+    put_drawing(&mut drawn, table, c);
     compare(file, &drawn[..need])
 }
 
@@ -248,53 +140,17 @@ fn compare_drawing(
 pub fn undraw(file: &[u8], out: &mut [u8]) -> Written
     ensures { λ r. ⌜ Wrote (now (out .entry)) (orderBack (now (file .entry))) (now (out .exit)) r ⌝ }
 {
-    let mut next = [0u16; 1024];
-    let mut gap = [0u16; 1024];
-    let mut owner = [0u16; 1024];
-    let mut ys = [0u16; 1024];
-    let mut dls = [0u16; 1024];
-    let mut drs = [0u16; 1024];
-    let mut hs = [0u16; 1024];
-    let mut words = [0u16; 3072];
-    let mut later = [0u16; 3072];
-    let mut bends = [0u16; 3072];
-    let mut entries = [0u16; 3072];
-    let read = drawing_reader::read_lines(
-        file,
-        &mut next,
-        &mut gap,
-        &mut owner,
-        &mut ys,
-        &mut dls,
-        &mut drs,
-        &mut hs,
-        &mut words,
-        &mut later,
-        &mut bends,
-        &mut entries,
-    );
+    let mut table = [0u16; 16384];
+    let read = drawing_reader::read_lines(file, &mut table);
     let c = read.counts;
     let answer = read.answer;
     match answer {
         Answer::Refused(r, p) => Written::Refused(r, p),
         Answer::Accepted => {
-            let same = compare_drawing(
-                file,
-                &next,
-                &gap,
-                &owner,
-                &ys,
-                &dls,
-                &drs,
-                &hs,
-                &words,
-                &later,
-                &bends,
-                c,
-            );
+            let same = compare_drawing(file, &table, c);
             match same {
                 Answer::Refused(r, p) => Written::Refused(r, p),
-                Answer::Accepted => put_order(out, &words, &later, c),
+                Answer::Accepted => put_order(out, &table, c),
             }
         }
     }

@@ -36,7 +36,7 @@ fn point_at(e: &[u16], i: usize) -> usize
 }
 
 // What an array holds at point p.
-fn at_point(xs: &[u16; 1024], p: usize) -> usize
+fn at_point(xs: &[u16], p: usize) -> usize
     requires { ⌜ (length (now xs) ≡ 1024) × (0 < p) × (p ≤ 1024) ⌝ }
     ensures { λ r. ⌜ (r ≡ atPoint (now (xs .entry)) p) × (r < 65536) ⌝ }
 {
@@ -45,7 +45,7 @@ fn at_point(xs: &[u16; 1024], p: usize) -> usize
 }
 
 // How far the last entry's point lies to the right of the first entry's.
-pub fn way_over(e: &[u16], gap: &[u16; 1024]) -> usize
+pub fn way_over(e: &[u16], gap: &[u16]) -> usize
     requires { ⌜ (length (now gap) ≡ 1024) × (0 < length (now e)) × (length (now e) ≤ 1024) × Within 1024 (now e) ⌝ }
     ensures { λ r. ⌜ r ≡ way (now (gap .entry)) (now (e .entry)) (length (now (e .entry)) - 1) ⌝ }
 {
@@ -114,7 +114,7 @@ fn either_reaches(p: Spot, port: usize, a: usize, y: usize) -> bool
 }
 
 // Step 5: the index of the inner point from which ports change to i + 1, the first that port i doesn't reach.
-pub fn change_at(p: Spot, gap: &[u16; 1024], ys: &[u16; 1024], e: &[u16]) -> usize
+pub fn change_at(p: Spot, gap: &[u16], ys: &[u16], e: &[u16]) -> usize
     requires { ⌜ Small p × (length (now gap) ≡ 1024) × (length (now ys) ≡ 1024) × (1 < length (now e)) × (length (now e) ≤ 1024) × Within 1024 (now e) ⌝ }
     ensures { λ r. ⌜ r ≡ changeFrom p (now (gap .entry)) (now (ys .entry)) (now (e .entry)) 1 (innerCount (now (e .entry))) ⌝ }
 {
@@ -138,7 +138,7 @@ pub fn change_at(p: Spot, gap: &[u16; 1024], ys: &[u16; 1024], e: &[u16]) -> usi
 }
 
 // 25 is false: every inner point i reaches port i or port i + 1.
-pub fn all_reach(p: Spot, gap: &[u16; 1024], ys: &[u16; 1024], e: &[u16]) -> bool
+pub fn all_reach(p: Spot, gap: &[u16], ys: &[u16], e: &[u16]) -> bool
     requires { ⌜ Small p × (length (now gap) ≡ 1024) × (length (now ys) ≡ 1024) × (1 < length (now e)) × (length (now e) ≤ 1024) × Within 1024 (now e) ⌝ }
     ensures { λ r. ⌜ r ≡ allReachFrom p (now (gap .entry)) (now (ys .entry)) (now (e .entry)) 1 (innerCount (now (e .entry))) ⌝ }
 {

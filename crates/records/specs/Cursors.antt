@@ -1,11 +1,11 @@
 -- The bytes of a file from an offset on, and a record read there, by the file's length and the numbers in it.
 use Prim.Native.Nat.{ℕ, zero, suc, _+_, _*_, _<_, _≤_}
-use mathlib.Core.Path.{_≡_, refl, ap, _∙_}
+use mathlib.Core.Path.{_≡_, refl, ap, sym, _∙_}
 use mathlib.Core.Bool.{Bool, true, false, not}
 use mathlib.Core.List.{List, [], _∷_, _++_}
 use native.Mathlib.Numerals.{add-one}
 use native.Mathlib.Omega.{arith}
-use lib.ListN.{length, take, drop, set, length-drop}
+use lib.ListN.{length, take, drop, getD, set, length-drop}
 use lib.Seq.{drop-cons, drop-drop, getD-drop, take-suc-set}
 use lib.Dec.{ltb, eqb}
 use borrow.Author.Tests.{lt-ltb, le-ltb, ltb-true, ltb-false}
@@ -72,14 +72,44 @@ words-more (suc c) (a ∷ b ∷ l) h =
     let two : 2 * suc c ≡ suc (suc (2 * c)) = omega arith in
     rw (two, add-one (suc (suc (2 * c)))) (ap (λ (ws : List ℕ). (a * 256 + b) ∷ ws) (rw (add-one (2 * c)) at (words-more c l (omega arith))))
 
+-- a number behind an offset
+word-behind : (f : List ℕ) (at j : ℕ) → wordAt (drop at f) j ≡ wordAt f (at + j)
+word-behind f at j = let assoc : at + (j + 1) ≡ at + j + 1 = omega arith in rw (getD-drop at f j 0, getD-drop at f (j + 1) 0, assoc)
+
+-- two numbers
+pub two-left : (f : List ℕ) (at : ℕ) → at + 4 ≤ length f → wordsIn 2 (drop at f) ≡ wordAt f at ∷ wordAt f (at + 2) ∷ []
+two-left f at h = rw (words-more 1 (drop at f) (omega (arith, length-drop at f)), one-left f at (omega arith), word-behind f at 2)
+
 -- a turn of the copying: i numbers stand at the front of e, and the next one is stored
 pub copied : (f e : List ℕ) (at i v : ℕ) → at + 2 * (i + 1) ≤ length f → i < length e → take i e ≡ wordsIn i (drop at f) → v ≡ wordAt f (at + 2 * i) →
     take (i + 1) (set e i v) ≡ wordsIn (i + 1) (drop at f)
 copied f e at i v h b t q =
-    let assoc : at + (2 * i + 1) ≡ at + 2 * i + 1 = omega arith in
-    let one : wordAt (drop at f) (2 * i) ≡ v = rw (q, getD-drop at f (2 * i) 0, getD-drop at f (2 * i + 1) 0, assoc) in
+    let one : wordAt (drop at f) (2 * i) ≡ v = word-behind f at (2 * i) ∙ sym q in
     let more = words-more i (drop at f) (omega (arith, length-drop at f)) in
     rw (add-one i, take-suc-set e i v b, t, more, one)
+
+-- c numbers that are there: how many, and each of them
+count-words : (c : ℕ) (l : List ℕ) → 2 * c ≤ length l → length (wordsIn c l) ≡ c
+count-words zero l h = refl
+count-words (suc c) [] h = absurd (omega arith)
+count-words (suc c) (a ∷ []) h = absurd (omega arith)
+count-words (suc c) (a ∷ b ∷ l) h = ap suc (count-words c l (omega arith))
+
+each-word : (c i : ℕ) (l : List ℕ) → i < c → 2 * c ≤ length l → getD (wordsIn c l) i 0 ≡ wordAt l (2 * i)
+each-word zero i l b h = absurd (omega arith)
+each-word (suc c) i [] b h = absurd (omega arith)
+each-word (suc c) i (x ∷ []) b h = absurd (omega arith)
+each-word (suc c) zero (x ∷ y ∷ l) b h = refl
+each-word (suc c) (suc i) (x ∷ y ∷ l) b h =
+    let two : 2 * suc i ≡ suc (suc (2 * i)) = omega arith in
+    rw (two, add-one (suc (suc (2 * i)))) (rw (add-one (2 * i)) at (each-word c i l (omega arith) (omega arith)))
+
+module _ (f : List ℕ) (from c : ℕ) (h : from + 2 * c ≤ length f) where
+  pub words-count : length (wordsIn c (drop from f)) ≡ c
+  words-count = count-words c (drop from f) (omega (arith, length-drop from f))
+
+  pub words-each : (i : ℕ) → i < c → getD (wordsIn c (drop from f)) i 0 ≡ wordAt f (from + 2 * i)
+  words-each i b = each-word c i (drop from f) b (omega (arith, length-drop from f)) ∙ word-behind f from (2 * i)
 
 -- ---- a record
 
@@ -134,9 +164,8 @@ module _ (f : List ℕ) (at : ℕ) where
     pub entries-short : (c : ℕ) → at + 4 ≤ length f → c ≡ wordAt f (at + 2) → length f < at + 4 + 2 * c → readRecord pointEntries (cursor f at) ≡ refused FileEnds at
     entries-short c l q s = counted-by c l q ∙ short f (at + 4) at c l s
 
-    pub entries-there : (c : ℕ) (ws : List ℕ) → at + 4 + 2 * c ≤ length f → c ≡ wordAt f (at + 2) → ws ≡ wordsIn c (drop (at + 4) f) →
-        readRecord pointEntries (cursor f at) ≡ found f at ws (at + 4 + 2 * c)
-    entries-there c ws l q t = counted-by c (omega arith) q ∙ there f (at + 4) at c l ∙ rw t
+    pub entries-there : (c : ℕ) → at + 4 + 2 * c ≤ length f → c ≡ wordAt f (at + 2) → readRecord pointEntries (cursor f at) ≡ found f at (wordsIn c (drop (at + 4) f)) (at + 4 + 2 * c)
+    entries-there c l q = counted-by c (omega arith) q ∙ there f (at + 4) at c l
 
   -- nothing: the end record
   module _ (m : answer (markAt 0x454E f at) ≡ Accepted) where

@@ -18,9 +18,13 @@ pub enum Number {
     Refused(Refusal, usize),
 }
 
-// The entries of a point's record: how many, and the offset behind them.
+// The entries of a point's record: how many, their offset, and the offset behind them.
 pub enum Entries {
-    Given { count: usize, next: usize },
+    Given {
+        count: usize,
+        from: usize,
+        next: usize,
+    },
     Refused(Refusal, usize),
 }
 
@@ -54,7 +58,7 @@ pub fn read_number(f: &[u8], at: usize, mark: u16) -> Number
 }
 
 // Copies `count` numbers of the file into e.
-fn copy_numbers(f: &[u8], at: usize, count: usize, e: &mut [u16])
+pub fn copy_numbers(f: &[u8], at: usize, count: usize, e: &mut [u16])
     requires { ⌜ (at + 2 * count ≤ length (now f)) × (count ≤ length (now e)) ⌝ }
     ensures { λ _. ⌜ take count (now (e .exit)) ≡ wordsIn count (drop at (now (f .entry))) ⌝ }
 {
@@ -65,10 +69,10 @@ fn copy_numbers(f: &[u8], at: usize, count: usize, e: &mut [u16])
     }
 }
 
-// A point's record: its entries come to stand in e, as 16-bit numbers.
-pub fn read_entries(f: &[u8], at: usize, e: &mut [u16]) -> Entries
-    requires { ⌜ (at ≤ length (now f)) × (length (now e) ≡ 65536) ⌝ }
-    ensures { λ r. ⌜ EntriesRead (now (f .entry)) at (now (e .exit)) r ⌝ }
+// A point's record: a count, and that many entries, as 16-bit numbers.
+pub fn read_entries(f: &[u8], at: usize) -> Entries
+    requires { ⌜ at ≤ length (now f) ⌝ }
+    ensures { λ r. ⌜ EntriesRead (now (f .entry)) at r ⌝ }
 {
     let marked = mark_at(f, at, 0x5054);
     if let Answer::Refused(r, p) = marked {
@@ -83,8 +87,7 @@ pub fn read_entries(f: &[u8], at: usize, e: &mut [u16]) -> Entries
     if f.len() < next {
         return Entries::Refused(Refusal::FileEnds, at);
     }
-    copy_numbers(f, from, count, e);
-    Entries::Given { count, next }
+    Entries::Given { count, from, next }
 }
 
 // 1 and 2 on `count` records of a mark and `size` numbers, record by record from `at` on.

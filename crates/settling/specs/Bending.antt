@@ -18,42 +18,42 @@ use Rattle.links.specs.declared.Counts.{Counts}
 use Rattle.links.specs.Arrays.{Arrays, Stores, atPoint}
 use Rattle.settling.specs.Bends.{bendIn, PortFits, Bendable}
 
--- the first numbers of the lists are the drawing's
-pub record Shows (d : Drawing) (xs ys dls drs hs : List ℕ) : Type 0 where
+-- the first numbers of the x and of the arrays are the drawing's
+pub record Shows (d : Drawing) (xs : List ℕ) (a : Arrays) : Type 0 where
   pub x : take (d .k) xs ≡ d .xs
-  pub y : take (d .k) ys ≡ d .ys
-  pub dl : take (d .k) dls ≡ d .dls
-  pub dr : take (d .k) drs ≡ d .drs
-  pub h : take (d .k) hs ≡ d .hs
+  pub y : take (d .k) (a .ys) ≡ d .ys
+  pub dl : take (d .k) (a .dls) ≡ d .dls
+  pub dr : take (d .k) (a .drs) ≡ d .drs
+  pub h : take (d .k) (a .hs) ≡ d .hs
 
 -- The settled x and the arrays that store a drawing show it.
-pub shows-of : {d : Drawing} {a : Arrays} {c : Counts} {xs : List ℕ} → take (d .k) xs ≡ d .xs → Stores d a c → Shows d xs (a .ys) (a .dls) (a .drs) (a .hs)
+pub shows-of : {d : Drawing} {a : Arrays} {c : Counts} {xs : List ℕ} → take (d .k) xs ≡ d .xs → Stores d a c → Shows d xs a
 shows-of e s = record { x = e; y = s .ys; dl = s .dls; dr = s .drs; h = s .hs }
 
 -- A number of a placed point, read from the longer list.
 same-at : (l : List ℕ) {l′ : List ℕ} (k p : ℕ) → take k l ≡ l′ → 0 < p → p ≤ k → atPoint l p ≡ atPoint l′ p
 same-at l k p e a b = sym (getD-take k l (pred p) 0 (omega arith)) ∙ ap (λ (m : List ℕ). getD m (pred p) 0) e
 
-module _ {d : Drawing} {xs ys dls drs hs : List ℕ} (s : Shows d xs ys dls drs hs) where
+module _ {d : Drawing} {xs : List ℕ} {a : Arrays} (s : Shows d xs a) where
   -- The numbers of a placed point are the drawing's.
   pub record Seen (p : ℕ) : Type 0 where
     pub x : atPoint xs p ≡ xOf d p
-    pub y : atPoint ys p ≡ yOf d p
-    pub dl : atPoint dls p ≡ dlOf d p
-    pub dr : atPoint drs p ≡ drOf d p
-    pub h : atPoint hs p ≡ hOf d p
+    pub y : atPoint (a .ys) p ≡ yOf d p
+    pub dl : atPoint (a .dls) p ≡ dlOf d p
+    pub dr : atPoint (a .drs) p ≡ drOf d p
+    pub h : atPoint (a .hs) p ≡ hOf d p
 
   seen : (p : ℕ) → 0 < p → p ≤ d .k → Seen p
-  seen p a b =
+  seen p l u =
       record {
-        x = same-at xs (d .k) p (s .x) a b;
-        y = same-at ys (d .k) p (s .y) a b;
-        dl = same-at dls (d .k) p (s .dl) a b;
-        dr = same-at drs (d .k) p (s .dr) a b;
-        h = same-at hs (d .k) p (s .h) a b;
+        x = same-at xs (d .k) p (s .x) l u;
+        y = same-at (a .ys) (d .k) p (s .y) l u;
+        dl = same-at (a .dls) (d .k) p (s .dl) l u;
+        dr = same-at (a .drs) (d .k) p (s .dr) l u;
+        h = same-at (a .hs) (d .k) p (s .h) l u;
       }
 
-  bend-by : (later earlier : ℕ) → Seen later → Seen earlier → Seen 1 → (b : Bend) → bendIn xs ys dls drs hs later earlier b ≡ bendOf d later earlier b
+  bend-by : (later earlier : ℕ) → Seen later → Seen earlier → Seen 1 → (b : Bend) → bendIn xs a later earlier b ≡ bendOf d later earlier b
   bend-by later earlier v u o (Left j) = rw (u .x, u .y, u .dl)
   bend-by later earlier v u o (Right j) = rw (u .x, u .y, u .dr)
   bend-by later earlier v u o (Middle i) = rw (v .x, v .y, v .h)
@@ -61,8 +61,8 @@ module _ {d : Drawing} {xs ys dls drs hs : List ℕ} (s : Shows d xs ys dls drs 
 
   -- So the bend read from the lists is the drawing's.
   pub bend-right : (later earlier : ℕ) → 0 < later → later ≤ d .k → 0 < earlier → earlier ≤ d .k → (b : Bend) →
-      bendIn xs ys dls drs hs later earlier b ≡ bendOf d later earlier b
-  bend-right later earlier a b c e = bend-by later earlier (seen later a b) (seen earlier c e) (seen 1 (omega arith) (omega arith))
+      bendIn xs a later earlier b ≡ bendOf d later earlier b
+  bend-right later earlier l u c e = bend-by later earlier (seen later l u) (seen earlier c e) (seen 1 (omega arith) (omega arith))
 
   module _ (sound : Sound d) (small : d .k ≤ 1024) (e : ℕ) (el : e < length (d .lines)) where
     -- The later point lies in the frame, which is small.
@@ -71,7 +71,7 @@ module _ {d : Drawing} {xs ys dls drs hs : List ℕ} (s : Shows d xs ys dls drs 
 
     -- So do the ports of a line.
     fits-by : (b : Bend) → lineAt d e .bend ≡ b → Seen (lineAt d e .later) → Seen (lineAt d e .earlier) →
-        PortFits xs ys dls drs hs (lineAt d e .later) (lineAt d e .earlier) b
+        PortFits xs a (lineAt d e .later) (lineAt d e .earlier) b
     fits-by (Left j) q v u =
         let t = sound .inv .slopes .slope lf j e el (ap kindOf q) in
         let f = aside-of _ (ap kindOf q) (sound .inv .core .lines .fits e el) in
@@ -86,8 +86,7 @@ module _ {d : Drawing} {xs ys dls drs hs : List ℕ} (s : Shows d xs ys dls drs 
     fits-by Straight q v u = tt
 
     -- The bend of a line of a sound drawing can be found.
-    pub bendable-of : (length xs ≡ 1024) × (length ys ≡ 1024) × (length dls ≡ 1024) × (length drs ≡ 1024) × (length hs ≡ 1024) →
-        Bendable xs ys dls drs hs (lineAt d e .later) (lineAt d e .earlier) (lineAt d e .bend)
+    pub bendable-of : length xs ≡ 1024 → Bendable xs a (lineAt d e .later) (lineAt d e .earlier) (lineAt d e .bend)
     bendable-of long =
         let some = sound .ended .ends e el in
         let ends : (pred (lineAt d e .earlier) < d .k) × (pred (lineAt d e .later) < d .k) = sound .inv .core .lines .ends e el in

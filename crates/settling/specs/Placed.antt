@@ -7,36 +7,34 @@ use lib.ListN.{length, take}
 use Rattle.rules.specs.Points.{Drawing, xOf, ownerOf, w, m}
 use Rattle.promise.specs.Sound.{Sound}
 use Rattle.links.specs.declared.Counts.{Counts}
-use Rattle.links.specs.Arrays.{Arrays, Sized, Stores, atPoint}
+use Rattle.links.specs.Arrays.{Arrays, Stores, atPoint}
 
 -- the links, gaps and owners of the `count` points of a drawing: the parts of `Stores` that say where its points lie
-pub record Placed (d : Drawing) (next gap owners : List ℕ) (count : ℕ) : Type 0 where
+pub record Placed (d : Drawing) (a : Arrays) (count : ℕ) : Type 0 where
   pub k : count ≡ d .k
-  pub owner : take (d .k) owners ≡ d .owners
-  pub link : (i : ℕ) → suc i < m d → atPoint next (w d i) ≡ w d (suc i)
-  pub last : atPoint next 2 ≡ 0
-  pub step : (i : ℕ) → suc i < m d → xOf d (w d (suc i)) ≡ xOf d (w d i) + atPoint gap (w d (suc i))
-  pub hang : (p o : ℕ) → suc p ≤ d .k → ownerOf d (suc p) ≡ suc o → xOf d (suc p) + 32768 ≡ xOf d (suc o) + atPoint gap (suc p)
+  pub owner : take (d .k) (a .owner) ≡ d .owners
+  pub link : (i : ℕ) → suc i < m d → atPoint (a .next) (w d i) ≡ w d (suc i)
+  pub last : atPoint (a .next) 2 ≡ 0
+  pub step : (i : ℕ) → suc i < m d → xOf d (w d (suc i)) ≡ xOf d (w d i) + atPoint (a .gap) (w d (suc i))
+  pub hang : (p o : ℕ) → suc p ≤ d .k → ownerOf d (suc p) ≡ suc o → xOf d (suc p) + 32768 ≡ xOf d (suc o) + atPoint (a .gap) (suc p)
 
 -- The arrays that store a drawing have them, for the number of its points.
-pub placed-at : {d : Drawing} {a : Arrays} {c : Counts} {count : ℕ} → count ≡ d .k → Stores d a c → Placed d (a .next) (a .gap) (a .owner) count
+pub placed-at : {d : Drawing} {a : Arrays} {c : Counts} {count : ℕ} → count ≡ d .k → Stores d a c → Placed d a count
 placed-at e s = record { k = e; owner = s .owner; link = s .link; last = s .last; step = s .step; hang = s .hang }
 
 -- what settling asks: some sound drawing has these links, gaps and owners
-pub record Settleable (x next gap owner : List ℕ) (k : ℕ) : Type 0 where
+pub record Settleable (x : List ℕ) (a : Arrays) (k : ℕ) : Type 0 where
   pub d : Drawing
   pub sound : Sound d
-  pub placed : Placed d next gap owner k
+  pub placed : Placed d a k
   pub small : k ≤ 1024
-  pub long : (length x ≡ 1024) × (length next ≡ 1024) × (length gap ≡ 1024) × (length owner ≡ 1024)
+  pub long : length x ≡ 1024
 
 -- what it gives: of every such drawing, the x of its points
-pub record Settled (x next gap owner : List ℕ) (k : ℕ) : Type 0 where
-  pub right : (d : Drawing) → Sound d → Placed d next gap owner k → take k x ≡ d .xs
+pub record Settled (x : List ℕ) (a : Arrays) (k : ℕ) : Type 0 where
+  pub right : (d : Drawing) → Sound d → Placed d a k → take k x ≡ d .xs
   pub long : length x ≡ 1024
 
 -- The arrays that store a sound drawing can be settled.
-pub settleable-of : {d : Drawing} {a : Arrays} {c : Counts} {x : List ℕ} → Stores d a c → Sound d → Sized a → length x ≡ 1024 → d .k ≤ 1024 →
-    Settleable x (a .next) (a .gap) (a .owner) (c .k)
-settleable-of {d} s sound z long small =
-    record { d = d; sound = sound; placed = placed-at (s .k) s; small = omega (arith, s .k); long = (long, z .next, z .gap, z .owner) }
+pub settleable-of : {d : Drawing} {a : Arrays} {c : Counts} {x : List ℕ} → Stores d a c → Sound d → length x ≡ 1024 → d .k ≤ 1024 → Settleable x a (c .k)
+settleable-of {d} s sound long small = record { d = d; sound = sound; placed = placed-at (s .k) s; small = omega (arith, s .k); long = long }

@@ -15,7 +15,7 @@ use Rattle.promise.specs.Sound.{Sound}
 use Rattle.promise.specs.Climb.{climb-root}
 use Rattle.promise.specs.Index.{index-at, index-le}
 use Rattle.promise.specs.Columns.{w-suc, w-placed, index-w}
-use Rattle.links.specs.Arrays.{atPoint}
+use Rattle.links.specs.Arrays.{Arrays, atPoint}
 use Rattle.settling.specs.Walk.{walked, firstPass, Walks, walked-past, walks-past, walked-go, go-walks}
 use Rattle.settling.specs.Hang.{hangBy, HangsBy, hung, Hangs}
 use Rattle.settling.specs.Placed.{Placed, Settleable, Settled}
@@ -70,7 +70,7 @@ module _ {d : Drawing} (s : Sound d) where
 
 -- ---- with its links, gaps and owners
 
-module _ {d : Drawing} (s : Sound d) {next gap owner : List ℕ} {k : ℕ} (h : Placed d next gap owner k) (small : k ≤ 1024) where
+module _ {d : Drawing} (s : Sound d) {a : Arrays} {k : ℕ} (h : Placed d a k) (small : k ≤ 1024) where
   kept : d .k ≤ 1024
   kept = omega (arith, h .k)
 
@@ -94,35 +94,35 @@ module _ {d : Drawing} (s : Sound d) {next gap owner : List ℕ} {k : ℕ} (h : 
 
   -- the walk stays within the arrays, and makes the x of boundary points right
   pub record Goes (steps p at : ℕ) (x : List ℕ) : Type 0 where
-    pub walks : Walks next gap steps p at
-    pub last : Upto (m d - 1) (walked next gap steps p at x)
+    pub walks : Walks (a .next) (a .gap) steps p at
+    pub last : Upto (m d - 1) (walked (a .next) (a .gap) steps p at x)
 
   -- Behind the last boundary point, which is point 2, it ends.
-  ended : (steps i p at : ℕ) (x : List ℕ) → suc i ≡ m d → p ≡ atPoint next (w d i) → Upto i x → Goes steps p at x
+  ended : (steps i p at : ℕ) (x : List ℕ) → suc i ≡ m d → p ≡ atPoint (a .next) (w d i) → Upto i x → Goes steps p at x
   ended steps i p at x im ep u =
       let l : pred (w d i) ≡ 1 = s .inv .core .corners .last i im in
       let z : w d i ≡ 2 = omega arith in
-      let e : p ≡ 0 = ep ∙ ap (λ (v : ℕ). atPoint next v) z ∙ h .last in
+      let e : p ≡ 0 = ep ∙ ap (λ (v : ℕ). atPoint (a .next) v) z ∙ h .last in
       let j : m d - 1 ≡ i = omega arith in
-      record { walks = walks-past next gap steps p at e; last = rw (walked-past next gap steps p at x e, j) u }
+      record { walks = walks-past (a .next) (a .gap) steps p at e; last = rw (walked-past (a .next) (a .gap) steps p at x e, j) u }
 
   -- One boundary point more.
-  further : (n i p at : ℕ) (x : List ℕ) → suc i < m d → p ≡ atPoint next (w d i) → at ≡ xOf d (w d i) →
-      (let q = pred (w d (suc i)) in at + getD gap q 0 ≡ xOf d (w d (suc i)) → Goes n (getD next q 0) (at + getD gap q 0) (set x q (at + getD gap q 0))) →
+  further : (n i p at : ℕ) (x : List ℕ) → suc i < m d → p ≡ atPoint (a .next) (w d i) → at ≡ xOf d (w d i) →
+      (let q = pred (w d (suc i)) in at + getD (a .gap) q 0 ≡ xOf d (w d (suc i)) → Goes n (getD (a .next) q 0) (at + getD (a .gap) q 0) (set x q (at + getD (a .gap) q 0))) →
       Goes (suc n) p at x
   further n i p at x im ep ea rest =
       let q = pred (w d (suc i)) in
       let e : p ≡ suc q = ep ∙ h .link i im ∙ sym (w-suc d (s .rooted) (suc i) im) in
-      let there : at + getD gap q 0 ≡ xOf d (w d (suc i)) = omega (arith, h .step i im) in
+      let there : at + getD (a .gap) q 0 ≡ xOf d (w d (suc i)) = omega (arith, h .step i im) in
       let placed : q < d .k = w-placed d (s .rooted) (suc i) im in
-      let fits : at + getD gap q 0 < 65536 = omega (arith, x-fits s q placed kept) in
+      let fits : at + getD (a .gap) q 0 < 65536 = omega (arith, x-fits s q placed kept) in
       record {
-        walks = go-walks next gap refl e at (omega (arith, kept)) fits (rest there .walks);
-        last = rw (walked-go next gap {steps = n} refl e at x) (rest there .last);
+        walks = go-walks (a .next) (a .gap) refl e at (omega (arith, kept)) fits (rest there .walks);
+        last = rw (walked-go (a .next) (a .gap) {steps = n} refl e at x) (rest there .last);
       }
 
   -- From behind boundary point i on.
-  goes : (steps i p at : ℕ) (x : List ℕ) → i < m d → m d ≤ suc i + steps → p ≡ atPoint next (w d i) → at ≡ xOf d (w d i) → Upto i x → Goes steps p at x
+  goes : (steps i p at : ℕ) (x : List ℕ) → i < m d → m d ≤ suc i + steps → p ≡ atPoint (a .next) (w d i) → at ≡ xOf d (w d i) → Upto i x → Goes steps p at x
   goes zero i p at x im enough ep ea u = ended zero i p at x (omega arith) ep u
   goes (suc n) i p at x im enough ep ea u =
       elim (decLt (suc i) (m d)) [
@@ -131,12 +131,12 @@ module _ {d : Drawing} (s : Sound d) {next gap owner : List ℕ} {k : ℕ} (h : 
       ]
 
   -- The first pass, from point 1 at 0 on.
-  pub walk-right : (x : List ℕ) → length x ≡ 1024 → Goes k (getD next 0 0) 0 (set x 0 0)
+  pub walk-right : (x : List ℕ) → length x ≡ 1024 → Goes k (getD (a .next) 0 0) 0 (set x 0 0)
   walk-right x long =
       let c = s .inv .core .corners in
       let one : pred (w d 0) ≡ 0 = c .first in
       let origin : xOf d (w d 0) ≡ 0 = ap (λ (p : ℕ). getD (d .xs) p 0) one ∙ c .origin .0 in
-      goes k 0 (getD next 0 0) 0 (set x 0 0) (omega (arith, c .size)) (omega (arith, m-most s, h .k)) (ap (λ (p : ℕ). getD next p 0) (sym one)) (sym origin) (first one origin)
+      goes k 0 (getD (a .next) 0 0) 0 (set x 0 0) (omega (arith, c .size)) (omega (arith, m-most s, h .k)) (ap (λ (p : ℕ). getD (a .next) p 0) (sym one)) (sym origin) (first one origin)
     where
       first : pred (w d 0) ≡ 0 → xOf d (w d 0) ≡ 0 → Upto 0 (set x 0 0)
       first one origin =
@@ -167,8 +167,8 @@ module _ {d : Drawing} (s : Sound d) {next gap owner : List ℕ} {k : ℕ} (h : 
 
   -- the x with that of the point at index p, whose owner is o
   pub record Hung (o p : ℕ) (x : List ℕ) : Type 0 where
-    pub hangs : HangsBy o gap p x
-    pub down : Down p (hangBy o gap p x)
+    pub hangs : HangsBy o (a .gap) p x
+    pub down : Down p (hangBy o (a .gap) p x)
 
   hang-next : (o p : ℕ) (x : List ℕ) → p < d .k → getD (d .owners) p 0 ≡ o → Down (suc p) x → Hung o p x
   hang-next zero p x pk e u =
@@ -187,8 +187,8 @@ module _ {d : Drawing} (s : Sound d) {next gap owner : List ℕ} {k : ℕ} (h : 
   hang-next (suc o) p x pk e u =
       let later = owner-later s p o pk e in
       let there : getD x o 0 ≡ getD (d .xs) o 0 = u .right o (later .1) (later .0) in
-      let way : getD (d .xs) p 0 + 32768 ≡ getD (d .xs) o 0 + getD gap p 0 = h .hang p o pk e in
-      let v = getD x o 0 + getD gap p 0 - 32768 in
+      let way : getD (d .xs) p 0 + 32768 ≡ getD (d .xs) o 0 + getD (a .gap) p 0 = h .hang p o pk e in
+      let v = getD x o 0 + getD (a .gap) p 0 - 32768 in
       record {
         hangs = (omega (arith, kept, later), omega arith, omega (arith, x-fits s p pk kept));
         down = record {
@@ -203,21 +203,21 @@ module _ {d : Drawing} (s : Sound d) {next gap owner : List ℕ} {k : ℕ} (h : 
       }
 
   -- The owner of a placed point, as it is stored.
-  owner-is : (p : ℕ) → p < d .k → getD (d .owners) p 0 ≡ getD owner p 0
-  owner-is p pk = ap (λ (l : List ℕ). getD l p 0) (sym (h .owner)) ∙ getD-take (d .k) owner p 0 pk
+  owner-is : (p : ℕ) → p < d .k → getD (d .owners) p 0 ≡ getD (a .owner) p 0
+  owner-is p pk = ap (λ (l : List ℕ). getD l p 0) (sym (h .owner)) ∙ getD-take (d .k) (a .owner) p 0 pk
 
   -- the second pass over the indices p - 1, .., 0
   pub record Hangings (p : ℕ) (x : List ℕ) : Type 0 where
-    pub hangs : Hangs gap owner p x
-    pub down : Down 0 (hung gap owner p x)
+    pub hangs : Hangs (a .gap) (a .owner) p x
+    pub down : Down 0 (hung (a .gap) (a .owner) p x)
 
   hangings : (p : ℕ) (x : List ℕ) → p ≤ d .k → Down p x → Hangings p x
   unfolding hung Hangs
   hangings zero x pk u = record { hangs = tt; down = u }
   hangings (suc p) x pk u =
-      let a = hang-next (getD owner p 0) p x pk (owner-is p pk) u in
-      let b = hangings p (hangBy (getD owner p 0) gap p x) (omega arith) (a .down) in
-      record { hangs = (a .hangs, b .hangs); down = b .down }
+      let t = hang-next (getD (a .owner) p 0) p x pk (owner-is p pk) u in
+      let b = hangings p (hangBy (getD (a .owner) p 0) (a .gap) p x) (omega arith) (t .down) in
+      record { hangs = (t .hangs, b .hangs); down = b .down }
 
   -- The second pass, over what the first one left.
   pub hang-right : (x : List ℕ) → Upto (m d - 1) x → Hangings k x
@@ -231,28 +231,28 @@ module _ {d : Drawing} (s : Sound d) {next gap owner : List ℕ} {k : ℕ} (h : 
       (λ i il. getD-take k x i 0 (omega (arith, n)) ∙ u .right i (omega (arith, n, h .k)) (omega arith))
 
   -- So the first k numbers of the model are the drawing's x.
-  pub settled-right : (x : List ℕ) → length x ≡ 1024 → take k (hung gap owner k (firstPass next gap k x)) ≡ d .xs
+  pub settled-right : (x : List ℕ) → length x ≡ 1024 → take k (hung (a .gap) (a .owner) k (firstPass (a .next) (a .gap) k x)) ≡ d .xs
   settled-right x long = all-right _ (hang-right _ (walk-right x long .last) .down)
 
 -- ---- what the two passes are known to be, of any arrays that can be settled
 
-module _ {x next gap owner : List ℕ} {k : ℕ} (a : Settleable x next gap owner k) where
+module _ {x : List ℕ} {a : Arrays} {k : ℕ} (h : Settleable x a k) where
   -- The first pass.
-  first : Goes (a .sound) (a .placed) (a .small) k (getD next 0 0) 0 (set x 0 0)
-  first = walk-right (a .sound) (a .placed) (a .small) x (a .long .0)
+  first : Goes (h .sound) (h .placed) (h .small) k (getD (a .next) 0 0) 0 (set x 0 0)
+  first = walk-right (h .sound) (h .placed) (h .small) x (h .long)
 
   -- The second.
-  second : Hangings (a .sound) (a .placed) (a .small) k (firstPass next gap k x)
-  second = hang-right (a .sound) (a .placed) (a .small) (firstPass next gap k x) (first .last)
+  second : Hangings (h .sound) (h .placed) (h .small) k (firstPass (a .next) (a .gap) k x)
+  second = hang-right (h .sound) (h .placed) (h .small) (firstPass (a .next) (a .gap) k x) (first .last)
 
-  pub first-walks : Walks next gap k (getD next 0 0) 0
+  pub first-walks : Walks (a .next) (a .gap) k (getD (a .next) 0 0) 0
   first-walks = first .walks
 
-  pub first-long : length (firstPass next gap k x) ≡ 1024
+  pub first-long : length (firstPass (a .next) (a .gap) k x) ≡ 1024
   first-long = first .last .long
 
-  pub second-hangs : Hangs gap owner k (firstPass next gap k x)
+  pub second-hangs : Hangs (a .gap) (a .owner) k (firstPass (a .next) (a .gap) k x)
   second-hangs = second .hangs
 
-  pub both-settle : Settled (hung gap owner k (firstPass next gap k x)) next gap owner k
-  both-settle = record { right = λ d s h. settled-right s h (a .small) x (a .long .0); long = second .down .long }
+  pub both-settle : Settled (hung (a .gap) (a .owner) k (firstPass (a .next) (a .gap) k x)) a k
+  both-settle = record { right = λ d s p. settled-right s p (h .small) x (h .long); long = second .down .long }

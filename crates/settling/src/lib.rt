@@ -1,20 +1,28 @@
 // The x of every placed point, from links and gaps, and the place where a line bends.
-// For the crates above: it asks for the arrays of a drawing, which they have.
+// For the crates above: it asks for the table of a drawing, which they have.
 use rules::Bend;
 use rules::Place;
+use tables::DLS;
+use tables::DRS;
+use tables::GAP;
+use tables::HS;
+use tables::NEXT;
+use tables::OWNER;
+use tables::YS;
 use words::broad;
 use words::narrow;
 ghost use mathlib.Core.Path.{_≡_};
 ghost use Prim.Native.Nat.{_+_, _-_, _<_, _≤_};
 ghost use lib.ListN.{length, getD};
 ghost use Rattle.rules.specs.Points.{at};
+ghost use Rattle.tables.specs.Tables.{Full, arraysIn};
 ghost use Rattle.settling.specs.Walk.{firstPass, Walks};
 ghost use Rattle.settling.specs.Hang.{hangBy, HangsBy, hung, Hangs};
 ghost use Rattle.settling.specs.Placed.{Settleable, Settled};
 ghost use Rattle.settling.specs.Bends.{Bendable, bendIn};
 
 // The first pass: boundary points along the links from point 1, which lies at 0.
-fn walk(x: &mut [u16; 1024], next: &[u16; 1024], gap: &[u16; 1024], k: usize)
+fn walk(x: &mut [u16; 1024], next: &[u16], gap: &[u16], k: usize)
     requires { ⌜ (length (now x) ≡ 1024) × (length (now next) ≡ 1024) × (length (now gap) ≡ 1024) × Walks (now next) (now gap) k (getD (now next) 0 0) 0 ⌝ }
     ensures { λ _. ⌜ now (x .exit) ≡ firstPass (now (next .entry)) (now (gap .entry)) k (now (x .entry)) ⌝ }
 {
@@ -36,7 +44,7 @@ fn walk(x: &mut [u16; 1024], next: &[u16; 1024], gap: &[u16; 1024], k: usize)
 }
 
 // One covered point, at index p: its x from its owner's. Of a boundary point nothing changes.
-fn hang_one(x: &mut [u16; 1024], gap: &[u16; 1024], owner: &[u16; 1024], p: usize)
+fn hang_one(x: &mut [u16; 1024], gap: &[u16], owner: &[u16], p: usize)
     requires { ⌜ (length (now x) ≡ 1024) × (length (now gap) ≡ 1024) × (length (now owner) ≡ 1024) × (p < 1024) × HangsBy (getD (now owner) p 0) (now gap) p (now x) ⌝ }
     ensures { λ _. ⌜ now (x .exit) ≡ hangBy (getD (now (owner .entry)) p 0) (now (gap .entry)) p (now (x .entry)) ⌝ }
 {
@@ -49,7 +57,7 @@ fn hang_one(x: &mut [u16; 1024], gap: &[u16; 1024], owner: &[u16; 1024], p: usiz
 }
 
 // The second pass: covered points from point k down to point 1, each after its owner.
-fn hang(x: &mut [u16; 1024], gap: &[u16; 1024], owner: &[u16; 1024], k: usize)
+fn hang(x: &mut [u16; 1024], gap: &[u16], owner: &[u16], k: usize)
     requires { ⌜ (length (now x) ≡ 1024) × (length (now gap) ≡ 1024) × (length (now owner) ≡ 1024) × (k ≤ 1024) × Hangs (now gap) (now owner) k (now x) ⌝ }
     ensures { λ _. ⌜ now (x .exit) ≡ hung (now (gap .entry)) (now (owner .entry)) k (now (x .entry)) ⌝ }
 {
@@ -61,18 +69,12 @@ fn hang(x: &mut [u16; 1024], gap: &[u16; 1024], owner: &[u16; 1024], k: usize)
 }
 
 // The x of every placed point.
-pub fn settle(
-    x: &mut [u16; 1024],
-    next: &[u16; 1024],
-    gap: &[u16; 1024],
-    owner: &[u16; 1024],
-    k: usize,
-)
-    requires { ⌜ Settleable (now x) (now next) (now gap) (now owner) k ⌝ }
-    ensures { λ _. ⌜ Settled (now (x .exit)) (now (next .entry)) (now (gap .entry)) (now (owner .entry)) k ⌝ }
+pub fn settle(x: &mut [u16; 1024], table: &[u16], k: usize)
+    requires { ⌜ Settleable (now x) (arraysIn (now table)) k × Full (now table) ⌝ }
+    ensures { λ _. ⌜ Settled (now (x .exit)) (arraysIn (now (table .entry))) k ⌝ }
 {
-    walk(x, next, gap, k);
-    hang(x, gap, owner, k);
+    walk(x, &table[NEXT..GAP], &table[GAP..OWNER], k);
+    hang(x, &table[GAP..OWNER], &table[OWNER..YS], k);
 }
 
 // Left port j of a point at (x, y) with dl left ports.
@@ -109,25 +111,19 @@ fn middle_port(x: u16, y: u16, h: u16, i: u16) -> Place
 }
 
 // Where a line bends, from the places of now.
-pub fn bend_of(
-    x: &[u16; 1024],
-    ys: &[u16; 1024],
-    dls: &[u16; 1024],
-    drs: &[u16; 1024],
-    hs: &[u16; 1024],
-    later: usize,
-    earlier: usize,
-    b: Bend,
-) -> Place
-    requires { ⌜ Bendable (now x) (now ys) (now dls) (now drs) (now hs) later earlier b ⌝ }
-    ensures { λ r. ⌜ r ≡ bendIn (now (x .entry)) (now (ys .entry)) (now (dls .entry)) (now (drs .entry)) (now (hs .entry)) later earlier b ⌝ }
+pub fn bend_of(x: &[u16; 1024], table: &[u16], later: usize, earlier: usize, b: Bend) -> Place
+    requires { ⌜ Bendable (now x) (arraysIn (now table)) later earlier b × Full (now table) ⌝ }
+    ensures { λ r. ⌜ r ≡ bendIn (now (x .entry)) (arraysIn (now (table .entry))) later earlier b ⌝ }
 {
     let p = later - 1;
     let q = earlier - 1;
     match b {
-        Bend::Left(j) => left_port(x[q], ys[q], dls[q], j),
-        Bend::Right(j) => right_port(x[q], ys[q], drs[q], j),
-        Bend::Middle(i) => middle_port(x[p], ys[p], hs[p], i),
-        Bend::Straight => Place { x: x[0], y: ys[0] },
+        Bend::Left(j) => left_port(x[q], table[YS + q], table[DLS + q], j),
+        Bend::Right(j) => right_port(x[q], table[YS + q], table[DRS + q], j),
+        Bend::Middle(i) => middle_port(x[p], table[YS + p], table[HS + p], i),
+        Bend::Straight => Place {
+            x: x[0],
+            y: table[YS],
+        },
     }
 }

@@ -138,7 +138,7 @@ module _ {d : Drawing} {a : Arrays} {c : Counts} (t : Stores d a c) (s : Sound d
   covered-same (suc p) low high = ap (λ o. eqb o 0) (owner-at t (suc p) low high) ∙ sym (elem-owner s p high)
 
   -- 6 and 7, entry by entry.
-  entries-same : (i : ℕ) (es : List ℕ) → entriesPass (a .owner) (c .k) i es ≡ entryTests d i (pointsOf (map entryOf es))
+  pub entries-same : (i : ℕ) (es : List ℕ) → entriesPass (a .owner) (c .k) i es ≡ entryTests d i (pointsOf (map entryOf es))
   entries-same i [] = refl
   entries-same i (e ∷ es) =
       let p = pointIn e in

@@ -11,7 +11,10 @@ use Rattle.links.specs.declared.Spot.{Spot}
 use Rattle.links.specs.Arrays.{atPoint}
 use Rattle.links.specs.Placing.{entryPoint, way, innerCount}
 use Rattle.links.specs.Storing.{coveredGaps, coveredOwners}
+use Rattle.links.specs.Arrays.{Arrays}
+use Rattle.tables.specs.Tables.{from, Keeps, arrays-store, gapR, ownerR}
 use Rattle.storing.specs.Storable.{Coverable}
+use Rattle.storing.specs.Stages.{covered}
 
 -- the points of the entries behind entry i keep their gaps while the entries up to i are covered
 still : (gap es : List ℕ) (p : Spot) (i j : ℕ) → Coverable es gap p → i < j → j < length es → atPoint (coveredGaps gap es p i) (entryPoint es j) ≡ atPoint gap (entryPoint es j)
@@ -33,15 +36,14 @@ way-most gap es i j h =
     rw e at (way-more gap es i (j - i))
 
 -- the entries 1 to i are covered, `far` is the way to the last of them, and q is the point of entry i + 1, which is covered next
-pub record Turn (gap₀ owner₀ es : List ℕ) (p : Spot) (v i far : ℕ) (gap owner : List ℕ) (q : ℕ) : Type 0 where
+pub record Turn (gap₀ es : List ℕ) (p : Spot) (i far : ℕ) (gap : List ℕ) (q : ℕ) : Type 0 where
   pub call : Coverable es gap₀ p
   pub inner : i < innerCount es
   pub passed : far ≡ way gap₀ es i
   pub gaps : gap ≡ coveredGaps gap₀ es p i
-  pub owners : owner ≡ coveredOwners owner₀ es v i
   pub point : q ≡ entryPoint es (i + 1)
 
-module _ {gap₀ owner₀ es : List ℕ} {p : Spot} {v i far : ℕ} {gap owner : List ℕ} {q : ℕ} (t : Turn gap₀ owner₀ es p v i far gap owner q) where
+module _ {gap₀ es : List ℕ} {p : Spot} {i far : ℕ} {gap : List ℕ} {q : ℕ} (t : Turn gap₀ es p i far gap q) where
   entry : i + 1 < length es
   entry = omega (arith, t .inner)
 
@@ -63,6 +65,15 @@ module _ {gap₀ owner₀ es : List ℕ} {p : Spot} {v i far : ℕ} {gap owner :
   unfolding coveredGaps
   turn-gap e = rw (e, t .gaps, t .point, sub-one, add-one)
 
-  pub turn-owner : set owner (q - 1) v ≡ coveredOwners owner₀ es v (i + 1)
-  unfolding coveredOwners
-  turn-owner = rw (t .owners, t .point, sub-one, add-one)
+-- the same of the owners
+pub owner-more : (owner₀ owner es : List ℕ) (v i q : ℕ) → owner ≡ coveredOwners owner₀ es v i → q ≡ entryPoint es (i + 1) → set owner (q - 1) v ≡ coveredOwners owner₀ es v (i + 1)
+unfolding coveredOwners
+owner-more owner₀ owner es v i q ho hq = rw (ho, hq, sub-one, add-one)
+
+-- and of the whole table
+pub cover-more : (a : Arrays) {es : List ℕ} {p : Spot} {i far q x : ℕ} {t : List ℕ} (v : ℕ) → Turn (a .gap) es p i far (coveredGaps (a .gap) es p i) q → Keeps t (covered a es p v i) → x ≡ way (a .gap) es (i + 1) + p .s1 + 32768 - p .dx →
+    Keeps (set (set t (from gapR + (q - 1)) x) (from ownerR + (q - 1)) v) (covered a es p v (i + 1))
+cover-more a {es} {p} {i} {far} {q} {x} v t k e =
+    let g = turn-gap t e in
+    let o = owner-more (a .owner) (coveredOwners (a .owner) es v i) es v i q refl (t .point) in
+    rw (← g, ← o) (arrays-store ownerR (q - 1) v (arrays-store gapR (q - 1) x k refl (turn-index t)) refl (turn-index t))

@@ -4,14 +4,14 @@ use mathlib.Core.Path.{_≡_}
 use mathlib.Core.List.{List}
 use native.Mathlib.Numerals.{add-one}
 use native.Mathlib.Omega.{arith}
-use lib.ListN.{length, getD}
+use lib.ListN.{length}
 use Rattle.links.specs.declared.Spot.{Spot}
 use Rattle.links.specs.declared.Counts.{Counts}
 use Rattle.links.specs.Arrays.{Arrays, atPoint}
 use Rattle.links.specs.Placing.{entryPoint, innerCount}
-use Rattle.links.specs.Storing.{putAt, coveredGaps, coveredOwners, codeOf, filled, withPoint}
-use Rattle.links.specs.Arrays.{arraysOf}
+use Rattle.links.specs.Storing.{codeOf, withPoint}
 use Rattle.storing.specs.Storable.{Coverable, Linkable, Growable, Pushable, Storable}
+use Rattle.storing.specs.Stages.{covered, linked, ported, lined}
 
 -- a storable call whose first and last entry have the points wl and wr
 pub record Run (a : Arrays) (c : Counts) (es : List ℕ) (p : Spot) (wl wr : ℕ) : Type 0 where
@@ -72,23 +72,9 @@ module _ {a : Arrays} {c : Counts} {es : List ℕ} {p : Spot} {wl wr : ℕ} (r :
           left-code = rw (hl, r .right) (omega (arith, r .call .lefts));
         }
 
-    -- gap and owner once the inner points are covered, then the ten arrays at exit
+    -- the stages make the whole
     pub whole :
-        (from : ℕ) {new : ℕ} {gap owner next′ gap′ owner′ ys′ dls′ drs′ hs′ words′ later′ bends′ : List ℕ} →
-        new ≡ c .k + 1 →
-        gap ≡ coveredGaps (a .gap) es p (innerCount es) →
-        owner ≡ coveredOwners (a .owner) es new (innerCount es) →
-        next′ ≡ putAt (putAt (a .next) (c .k + 1) wr) wl (c .k + 1) →
-        gap′ ≡ putAt (putAt gap (c .k + 1) (p .dx)) wr (p .rest) →
-        owner′ ≡ putAt owner (c .k + 1) 0 →
-        ys′ ≡ putAt (a .ys) (c .k + 1) (p .y) →
-        dls′ ≡ putAt (putAt (a .dls) (c .k + 1) 0) wr (suc (atPoint (a .dls) wr)) →
-        drs′ ≡ putAt (putAt (a .drs) (c .k + 1) 0) wl (suc (atPoint (a .drs) wl)) →
-        hs′ ≡ putAt (a .hs) (c .k + 1) (p .h) →
-        words′ ≡ filled (λ i. getD es i 0) (a .words) (c .lines) (length es) →
-        later′ ≡ filled (λ i. suc (c .k)) (a .later) (c .lines) (length es) →
-        bends′ ≡ filled (codeOf rights lefts (length es - 1) from) (a .bends) (c .lines) (length es) →
-        arraysOf next′ gap′ owner′ ys′ dls′ drs′ hs′ words′ later′ bends′ ≡ withPoint a c es p from
+        (from : ℕ) {new : ℕ} → new ≡ c .k + 1 →
+        lined (ported (linked (covered a es p new (innerCount es)) (c .k + 1) wl wr p) (c .k + 1) wl wr) es (c .lines) (suc (c .k)) (codeOf rights lefts (length es - 1) from) (length es) ≡ withPoint a c es p from
     unfolding withPoint
-    whole from hn hg ho n g o y dl dr h ws la be =
-        rw (n, g, o, y, dl, dr, h, ws, la, be, hg, ho, hr, hl, hn, r .left, r .right, add-one)
+    whole from hn = rw (hr, hl, hn, r .left, r .right, add-one)

@@ -1,1 +1,2 @@
 pub mod Storable
+pub mod Stages

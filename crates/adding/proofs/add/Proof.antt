@@ -3,23 +3,20 @@ use Prim.Native.Nat.{ℕ}
 use mathlib.Core.Path.{_≡_, sym, _∙_}
 use mathlib.Core.List.{List}
 use native.Mathlib.Omega.{arith}
-use borrow.Author.Needs.{needs}
 use borrow.Author.Tests.{not-true, not-false}
 use Rattle.rules.specs.Refusals.{good}
-use Rattle.links.specs.declared.Counts.{Counts}
-use Rattle.links.specs.Arrays.{Arrays, arraysOf}
-use Rattle.links.specs.Storing.{spotFor}
 use Rattle.rules.specs.Answers.{accepted}
-use Rattle.adding.specs.Calls.{spotOver}
+use Rattle.links.specs.declared.Counts.{Counts}
+use Rattle.links.specs.Arrays.{Arrays}
+use Rattle.tables.specs.Tables.{arraysIn}
 use Rattle.adding.specs.Passing.{tests, Passing, passing, all-within, most, runs, small, storable, refused-early, refused-late, taken}
+use borrow.Author.Needs.{needs}
 use Rattle.adding.proofs.add.Statement.{statement}
 use Rattle.adding.proofs.add.Tie as tie
 
 -- the arrays, the numbers and the entries at entry
 abbrev arrays : tie.Start → Arrays
-arrays z =
-    let a = z .args in
-    arraysOf (a .next .now) (a .gap .now) (a .owner .now) (a .ys .now) (a .dls .now) (a .drs .now) (a .hs .now) (a .words .now) (a .later .now) (a .bends .now)
+arrays z = arraysIn (z .args .table .now)
 
 abbrev numbers : tie.Start → Counts
 numbers z = z .args .c
@@ -27,22 +24,40 @@ numbers z = z .args .c
 abbrev entries : tie.Start → List ℕ
 entries z = z .args .e .now
 
--- the function's start, from the place where the call is judged, and from where its spot is known
+-- the function's start, from the place where the call is judged; that place, from where its spot is known; and that, from where it reaches
 abbrev start : tie.After-enum-told → tie.Start
-start d = d .before .before .before .before .before .before
+start d = d .before .before .before .before .before .before .before .before
 
 abbrev judged : tie.After-spot-over → tie.After-enum-told
-judged o = o .before .before .before .before .before
+judged o = o .before .before
+
+abbrev spotted : tie.After-all-reach → tie.After-spot-over
+spotted r = r .before .before .before .before
 
 all-good : (d : tie.After-enum-told) → tests (arrays (start d)) (numbers (start d)) (entries (start d)) ≡ good tt
+unfolding arraysIn
 all-good d = accepted _ (sym (d .before .before .judge .ensures) ∙ d .enum-told .given .1) .is
 
 pass : (d : tie.After-enum-told) → Passing (arrays (start d)) (numbers (start d)) (entries (start d))
-pass d = passing (start d .pre) (entries (start d)) (all-good d)
+pass d = passing (start d .pre .0) (entries (start d)) (all-good d)
 
-spot : (o : tie.After-spot-over) → o .spot-over .result ≡ spotFor (arrays (start (judged o))) (entries (start (judged o)))
-unfolding spotOver
-spot o = o .spot-over .ensures
+sub-judge : tie.Need-sub-judge
+sub-judge c = search needs
+
+part-judge-start : tie.Need-part-judge-start
+part-judge-start c = search needs
+
+part-judge-end : tie.Need-part-judge-end
+part-judge-end c = search needs
+
+sub-judge-2 : tie.Need-sub-judge-2
+sub-judge-2 c = search needs
+
+part-judge-start-2 : tie.Need-part-judge-start-2
+part-judge-start-2 c = search needs
+
+part-judge-end-2 : tie.Need-part-judge-end-2
+part-judge-end-2 c = search needs
 
 judge-requires : tie.Need-judge-requires
 judge-requires c κs = search needs
@@ -53,68 +68,137 @@ enum-told c = search needs
 enum-told-2 : tie.Need-enum-told-2
 enum-told-2 c = search needs
 
+same-length : tie.Need-same-length
+same-length c = search needs
+
 returns : tie.Need-returns
+unfolding arraysIn
 returns c =
-    let z = c .before .before .before .before .before .before in
+    let z = c .before .before .before .before .before .before .before .before in
     refused-early (arrays z) (numbers z) (entries z) _ _ _ (c .before .before .judge .ensures) (c .enum-told2 .given .1)
 
 spot-over-requires : tie.Need-spot-over-requires
-spot-over-requires c κs = runs (pass (c .before .before .before .before))
+spot-over-requires c κs = (runs (pass (c .before)), start (c .before) .pre .1)
+
+sub-all-reach : tie.Need-sub-all-reach
+sub-all-reach c = search needs
+
+part-all-reach-start : tie.Need-part-all-reach-start
+part-all-reach-start c = search needs
+
+part-all-reach-end : tie.Need-part-all-reach-end
+part-all-reach-end c = search needs
+
+sub-all-reach-2 : tie.Need-sub-all-reach-2
+sub-all-reach-2 c = search needs
+
+part-all-reach-start-2 : tie.Need-part-all-reach-start-2
+part-all-reach-start-2 c = search needs
+
+part-all-reach-end-2 : tie.Need-part-all-reach-end-2
+part-all-reach-end-2 c = search needs
 
 all-reach-requires : tie.Need-all-reach-requires
+unfolding arraysIn
 all-reach-requires c κs =
-    let o = c .before .before in
+    let o = c .before .before .before in
     let p = pass (judged o) in
-    (small p _ (spot o), p .sized .gap, p .sized .ys, p .some, most p, all-within p)
+    (small p _ (o .spot-over .ensures), p .sized .gap, p .sized .ys, p .some, most p, all-within p)
+
+same-length-2 : tie.Need-same-length-2
+same-length-2 c = search needs
 
 returns-2 : tie.Need-returns-2
+unfolding arraysIn
 returns-2 c =
     let r = c .before in
-    let o = r .before .before .before in
+    let o = spotted r in
     let z = start (judged o) in
-    refused-late (arrays z) (numbers z) (entries z) _ (all-good (judged o)) (spot o) _ (r .all-reach .ensures) (not-true _ (c .if1 .taken))
+    refused-late (arrays z) (numbers z) (entries z) _ (all-good (judged o)) (o .spot-over .ensures) _ (r .all-reach .ensures) (not-true _ (c .if1 .taken))
+
+sub-change-at : tie.Need-sub-change-at
+sub-change-at c = search needs
+
+part-change-at-start : tie.Need-part-change-at-start
+part-change-at-start c = search needs
+
+part-change-at-end : tie.Need-part-change-at-end
+part-change-at-end c = search needs
+
+sub-change-at-2 : tie.Need-sub-change-at-2
+sub-change-at-2 c = search needs
+
+part-change-at-start-2 : tie.Need-part-change-at-start-2
+part-change-at-start-2 c = search needs
+
+part-change-at-end-2 : tie.Need-part-change-at-end-2
+part-change-at-end-2 c = search needs
 
 change-at-requires : tie.Need-change-at-requires
+unfolding arraysIn
 change-at-requires c κs =
-    let o = c .before .before .before .before .before .before in
+    let o = spotted (c .before .before .before .before) in
     let p = pass (judged o) in
-    (small p _ (spot o), p .sized .gap, p .sized .ys, p .some, most p, all-within p)
+    (small p _ (o .spot-over .ensures), p .sized .gap, p .sized .ys, p .some, most p, all-within p)
 
 store-requires : tie.Need-store-requires
 store-requires c κs =
-    let f = c .before .before .before .before .before .before .before .before .before .before in
-    let o = f .before .before .before .before .before .before .before in
-    storable (pass (judged o)) _ (spot o)
+    let o = spotted (c .before .before .before .before .before .before) in
+    (storable (pass (judged o)) _ (o .spot-over .ensures), start (judged o) .pre .1)
 
 counts-with-requires : tie.Need-counts-with-requires
 counts-with-requires c κs =
-    let f = c .before .before .before .before .before .before .before .before .before .before .before in
-    let o = f .before .before .before .before .before .before .before in
-    let p = pass (judged o) in
+    let f = c .before .before .before .before in
+    let p = pass (judged (spotted (f .before .before .before .before .before))) in
     (p .room, p .border, omega (arith, p .lines), p .fits)
 
+same-length-3 : tie.Need-same-length-3
+same-length-3 c = search needs
+
 returns-3 : tie.Need-returns-3
+unfolding arraysIn
 returns-3 c =
-    let t = c .before in
-    let f = t .before .before .before .before .before .before .before .before .before .before .before in
-    let i = f .before .before .before in
+    let t = c .before .before .before in
+    let f = t .before .before in
+    let i = f .before .before .before .before in
     let r = i .before in
-    let o = r .before .before .before in
+    let o = spotted r in
     let z = start (judged o) in
-    taken (arrays z) (numbers z) (entries z) _ (all-good (judged o)) (spot o) _ (r .all-reach .ensures) (not-false _ (i .if1 .left)) _ (f .change-at .ensures) _ (t .store .ensures) _ (c .counts-with .ensures)
+    taken (arrays z) (numbers z) (entries z) _ (all-good (judged o)) (o .spot-over .ensures) _ (r .all-reach .ensures) (not-false _ (i .if1 .left)) _ (f .change-at .ensures) _ (t .store .ensures) _ (c .counts-with .ensures)
 
 pub add-spec : {M : Type 1} → statement M
 add-spec =
     tie.close
     (tie.spec
+    sub-judge
+    part-judge-start
+    part-judge-end
+    sub-judge-2
+    part-judge-start-2
+    part-judge-end-2
     judge-requires
     enum-told
     enum-told-2
+    same-length
     returns
     spot-over-requires
+    sub-all-reach
+    part-all-reach-start
+    part-all-reach-end
+    sub-all-reach-2
+    part-all-reach-start-2
+    part-all-reach-end-2
     all-reach-requires
+    same-length-2
     returns-2
+    sub-change-at
+    part-change-at-start
+    part-change-at-end
+    sub-change-at-2
+    part-change-at-start-2
+    part-change-at-end-2
     change-at-requires
     store-requires
     counts-with-requires
+    same-length-3
     returns-3)

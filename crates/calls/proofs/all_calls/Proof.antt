@@ -3,22 +3,20 @@ use Prim.Native.Nat.{_-_}
 use native.Mathlib.Omega.{arith}
 use borrow.Author.Needs.{needs}
 use lib.ListN.{length}
-use Rattle.links.specs.Arrays.{arraysOf}
+use Rattle.tables.specs.Tables.{arraysIn}
 use Rattle.calls.proofs.Going.{Going, going-first, going-last, told-room, callable, turn}
 use Rattle.calls.proofs.all_calls.Statement.{statement}
 use Rattle.calls.proofs.all_calls.Tie as tie
 
 abbrev Inv-loop : tie.InvT-loop
-Inv-loop next₀ gap₀ owner₀ ys₀ dls₀ drs₀ hs₀ words₀ later₀ bends₀ calls answers₀ counts₀ told₀ at₀ next gap owner ys dls drs hs words later bends answers counts told at =
-    Going (counts₀ .n) calls answers₀ (arraysOf next gap owner ys dls drs hs words later bends) counts at told answers
+Inv-loop table₀ calls answers₀ counts₀ told₀ at₀ table answers counts told at = Going (counts₀ .n) calls answers₀ (arraysIn table) counts at told answers
 
 abbrev μ-loop : tie.MeasureT-loop
-μ-loop next₀ gap₀ owner₀ ys₀ dls₀ drs₀ hs₀ words₀ later₀ bends₀ calls answers₀ counts₀ told₀ at₀ next gap owner ys dls drs hs words later bends answers counts told at =
-    length calls - at
+μ-loop table₀ calls answers₀ counts₀ told₀ at₀ table answers counts told at = length calls - at
 
 -- the place where the call's end is known, from the end of a turn
 abbrev ended : tie.After-slice-known2 Inv-loop μ-loop → tie.After-end-of Inv-loop μ-loop
-ended c = c .before .before .before .before .before .before .before .before .before .before .before .before .before .before .before
+ended c = c .before .before .before .before .before .before
 
 loop-holds : tie.Need-loop-holds Inv-loop μ-loop
 loop-holds c = going-first (c .before .before .pre)
@@ -43,7 +41,7 @@ part-e-end c = omega (arith, c .end-of .ensures)
 
 one-call-requires : tie.Need-one-call-requires Inv-loop μ-loop
 one-call-requires c κs =
-    let d = c .before .before .before .before .before .before .before .before .before .before .before .before in
+    let d = c .before .before .before in
     let l = d .before .before in
     callable (l .loop .inv) (d .before .loop-test .taken) (d .end-of .result) (d .end-of .ensures) (l .before .before .shared-slice-known .given (l .loop .at) .fits)
 

@@ -1,19 +1,22 @@
--- `calls::draw_calls` meets its contract: its arrays are zeros.
-use mathlib.Core.Path.{refl}
+-- `calls::draw_calls` meets its contract: the calls start from the drawing as opened.
+use Rattle.calls.proofs.Outcomes.{begun}
 use borrow.Author.Needs.{needs}
 use Rattle.calls.proofs.draw_calls.Statement.{statement}
 use Rattle.calls.proofs.draw_calls.Tie as tie
 
-draw-in-requires : tie.Need-draw-in-requires
-draw-in-requires c κs =
-    let z = c .before .before .before .before .before .before .before .before .before .before .before .before .before in
-    (record { next = refl; gap = refl; owner = refl; ys = refl; dls = refl; drs = refl; hs = refl; words = refl; later = refl; bends = refl }, z .pre)
+open-in-requires : tie.Need-open-in-requires
+open-in-requires c κs = search needs
+
+all-calls-requires : tie.Need-all-calls-requires
+all-calls-requires c κs =
+    let o = c .before .before in
+    begun _ (o .before .before .before .before .pre) (o .open-in .ensures)
 
 same-length : tie.Need-same-length
 same-length c = search needs
 
 returns : tie.Need-returns
-returns c = c .before .before .draw-in .ensures
+returns c = search needs
 
 pub draw-calls-spec : {M : Type 1} → statement M
-draw-calls-spec = tie.close (tie.spec draw-in-requires same-length returns)
+draw-calls-spec = tie.close (tie.spec open-in-requires all-calls-requires same-length returns)

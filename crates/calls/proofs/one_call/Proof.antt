@@ -1,31 +1,25 @@
 -- `calls::one_call` meets its contract: the place of the answer fits 16 bits, and its words are those of the judged call.
 use native.Mathlib.Omega.{arith}
-use Rattle.links.specs.Arrays.{Arrays, arraysOf}
+use Rattle.tables.specs.Tables.{arraysIn, table-long}
 use Rattle.calls.specs.Places.{place-most}
 use borrow.Author.Needs.{needs}
 use Rattle.calls.proofs.one_call.Statement.{statement}
 use Rattle.calls.proofs.one_call.Tie as tie
 
--- the arrays at entry
-abbrev arrays : tie.Start → Arrays
-arrays z =
-    let a = z .args in
-    arraysOf (a .next .now) (a .gap .now) (a .owner .now) (a .ys .now) (a .dls .now) (a .drs .now) (a .hs .now) (a .words .now) (a .later .now) (a .bends .now)
-
 -- the function's start, from the place behind the call
 abbrev start : tie.After-add → tie.Start
-start d = d .before .before .before .before .before .before .before .before .before .before .before .before .before
+start d = d .before .before .before .before
 
 add-requires : tie.Need-add-requires
 add-requires c κs =
-    let z = c .before .before .before .before .before .before .before .before .before .before .before .before in
-    record { d = z .pre .plan; holds = z .pre .holds }
+    let z = c .before .before .before in
+    (record { d = z .pre .plan; holds = z .pre .holds }, table-long _ (z .pre .holds .sized))
 
 put-answer-requires : tie.Need-put-answer-requires
 put-answer-requires c κs =
     let d = c .before .before in
     let z = start d in
-    (z .pre .room, rw (d .add .ensures .answer) (omega (arith, place-most (arrays z) (z .args .c) (z .args .e .now), z .pre .few)))
+    (z .pre .room, rw (d .add .ensures .answer) (omega (arith, place-most (arraysIn (z .args .table .now)) (z .args .c) (z .args .e .now), z .pre .few)))
 
 same-length : tie.Need-same-length
 same-length c = search needs

@@ -1,23 +1,28 @@
 -- `nth_cut` meets its contract: `seen` of the first e lines are cut, and no more than j.
-use Prim.Native.Nat.{_-_, _≤_}
+use Prim.Native.Nat.{ℕ, _-_, _<_, _≤_}
 use mathlib.Core.Logic.{⊎-elim}
 use mathlib.Core.Path.{_≡_, refl, sym, ap, _∙_}
 use denote.Ref.{now}
 use native.Mathlib.Omega.{arith}
 use borrow.Author.Needs.{needs}
+use Rattle.rules.specs.Entries.{entryOf}
+use Rattle.tables.specs.Tables.{arraysIn, arrays-read, wordsR}
 use Rattle.cutter.specs.Cuts.{cutIn, cutsTo, countTo, counts-one, counts-none}
 use Rattle.cutter.proofs.nth_cut.Statement.{statement}
 use Rattle.cutter.proofs.nth_cut.Tie as tie
 
 abbrev Inv-loop : tie.InvT-loop
-Inv-loop words lines j seen₀ e₀ seen e = (e ≤ lines) × (seen ≡ cutsTo words e) × (seen ≤ j)
+Inv-loop table lines j seen₀ e₀ seen e = (e ≤ lines) × (seen ≡ cutsTo (arraysIn table .words) e) × (seen ≤ j)
 
 abbrev μ-loop : tie.MeasureT-loop
-μ-loop words lines j seen₀ e₀ seen e = lines - e
+μ-loop table lines j seen₀ e₀ seen e = lines - e
 
 loop-holds : tie.Need-loop-holds Inv-loop μ-loop
 unfolding countTo
 loop-holds c = (omega arith, refl, omega arith)
+
+add-is-cut : tie.Need-add-is-cut Inv-loop μ-loop
+add-is-cut c = search needs
 
 mul-is-cut : tie.Need-mul-is-cut Inv-loop μ-loop
 mul-is-cut c = search needs
@@ -28,11 +33,18 @@ element-copy-out-is-cut c = search needs
 is-cut-requires : tie.Need-is-cut-requires Inv-loop μ-loop
 is-cut-requires c κs = search needs
 
+-- the line at hand, as the table is read
+at-hand : (c : tie.After-is-cut Inv-loop μ-loop) → let b = c .before .before .before in cutIn (arraysIn (now (b .before .args .table)) .words) (b .loop .e) ≡ c .is-cut .result
+unfolding cutIn arraysIn
+at-hand c =
+    let b = c .before .before .before in
+    let low : b .loop .e < 3072 = omega (arith, b .before .pre, c .before .before .loop-test .taken) in
+    sym (c .is-cut .ensures ∙ ap (λ (w : ℕ). entryOf w .cut) (arrays-read wordsR (now (b .before .args .table)) (b .loop .e) 0 low))
+
 returns : tie.Need-returns Inv-loop μ-loop
-unfolding cutIn
 returns c =
     let b = c .before .before .before .before .before .loop in
-    record { within = b .inv .0; found = λ h. (sym (c .before .before .is-cut .ensures) ∙ c .before .if1 .taken, sym (b .inv .1) ∙ c .if2 .taken); none = λ h. absurd (omega arith) }
+    record { within = b .inv .0; found = λ h. (at-hand (c .before .before) ∙ c .before .if1 .taken, sym (b .inv .1) ∙ c .if2 .taken); none = λ h. absurd (omega arith) }
 
 add-seen : tie.Need-add-seen Inv-loop μ-loop
 add-seen c = search needs
@@ -44,11 +56,10 @@ loop-less : tie.Need-loop-less Inv-loop μ-loop
 loop-less c = search needs
 
 loop-again : tie.Need-loop-again Inv-loop μ-loop
-unfolding cutIn
 loop-again c =
     let b = c .before .before .before .before in
-    let f = cutIn (now (b .before .args .words)) in
-    let is = sym (c .before .is-cut .ensures) in
+    let f = cutIn (arraysIn (now (b .before .args .table)) .words) in
+    let is = at-hand (c .before) in
     ⊎-elim
     (λ w. let s = counts-one f (b .loop .e) (is ∙ w .0 .taken) in (omega arith, omega arith, omega arith))
     (λ w. let s = counts-none f (b .loop .e) (is ∙ w .0 .left) in (omega arith, omega arith, omega arith))
@@ -58,7 +69,7 @@ returns-2 : tie.Need-returns-2 Inv-loop μ-loop
 returns-2 c =
     let b = c .before .loop in
     let e : b .e ≡ c .before .before .args .lines = omega arith in
-    record { within = b .inv .0; found = λ h. absurd (omega arith); none = λ h. omega (arith, ap (cutsTo (now (c .before .before .args .words))) e) }
+    record { within = b .inv .0; found = λ h. absurd (omega arith); none = λ h. omega (arith, ap (cutsTo (arraysIn (now (c .before .before .args .table)) .words)) e) }
 
 pub nth-cut-spec : {M : Type 1} → statement M
 nth-cut-spec =
@@ -67,6 +78,7 @@ nth-cut-spec =
     Inv-loop
     μ-loop
     loop-holds
+    add-is-cut
     mul-is-cut
     element-copy-out-is-cut
     is-cut-requires

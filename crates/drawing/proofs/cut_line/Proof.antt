@@ -15,7 +15,7 @@ returns : tie.Need-returns
 returns c = λ q h. no-point-cut h (c .before .before .before .args .p) (sym (c .before .is-point .ensures) ∙ not-true _ (c .if1 .taken))
 
 -- past the test
-there : (c : tie.Else1) → between 1 (c .before .before .before .args .d .counts .k) (c .before .before .before .args .p) ≡ true
+there : (c : tie.Else1) → between 1 (c .before .before .before .args .t1 .counts .k) (c .before .before .before .args .p) ≡ true
 there c = sym (c .before .is-point .ensures) ∙ not-false _ (c .if1 .left)
 
 first-cut-requires : tie.Need-first-cut-requires
@@ -24,13 +24,13 @@ first-cut-requires c κs = search needs
 returns-2 : tie.Need-returns-2
 returns-2 c =
     let f = c .before .before in
-    let e = f .before .before .before .before .before in
+    let e = f .before .before .before in
     λ q h. finds h (e .before .before .before .args .p) (f .first-cut .result) (f .first-cut .ensures) (there e) (c .if2 .taken)
 
 returns-3 : tie.Need-returns-3
 returns-3 c =
     let f = c .before .before in
-    let e = f .before .before .before .before .before in
+    let e = f .before .before .before in
     λ q h. finds-none h (e .before .before .before .args .p) (f .first-cut .result) (f .first-cut .ensures) (there e) (c .if2 .left)
 
 pub cut-line-spec : {M : Type 1} → statement M

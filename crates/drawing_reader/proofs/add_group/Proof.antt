@@ -9,9 +9,9 @@ use Rattle.drawing_reader.proofs.Adds.{grouped}
 use Rattle.drawing_reader.proofs.add_group.Statement.{statement}
 use Rattle.drawing_reader.proofs.add_group.Tie as tie
 
--- e has room for the lines, before and after the group is taken
+-- e has room for the lines, once the group is taken
 room : (d : tie.After-take-group) → d .before .before .before .before .before .before .before .before .args .total ≤ length (d .take-group .last .1 .1 .1 .1 .0)
-room d = omega (arith, d .before .before .before .before .before .before .before .before .pre .room, d .take-group .kept .1 .1 .1 .1 .0)
+room d = let z = d .before .before .before .before .before .before .before .before in omega (arith, z .pre .0 .most, z .pre .1, d .take-group .kept .1 .1 .1 .1 .0)
 
 long : (d : tie.After-take-group) → d .take-group .result ≤ length (d .take-group .last .1 .1 .1 .1 .0)
 long d = omega (arith, room d, d .take-group .ensures .few)
@@ -38,7 +38,7 @@ slice-reshare-prefix-add : tie.Need-slice-reshare-prefix-add
 slice-reshare-prefix-add c = search needs
 
 slice-aggregate-add : tie.Need-slice-aggregate-add
-slice-aggregate-add c = sym (length-take-le _ _ (long (c .before .before .before .before .before .before .before .before .before .before .before .before .before)))
+slice-aggregate-add c = sym (length-take-le _ _ (long (c .before .before .before .before)))
 
 add-requires : tie.Need-add-requires
 add-requires c κs = search needs
@@ -52,9 +52,9 @@ same-length c = search needs
 returns : tie.Need-returns
 returns c =
     let s = c .before .before in
-    let g = s .before .before .before .before .before .before .before .before .before .before .before .before .before .before in
+    let g = s .before .before .before .before .before in
     let z = g .before .before .before .before .before .before .before .before in
-    grouped (z .pre .few) (room g) (g .before .before .narrow .ensures) (g .take-group .ensures) (s .add .ensures) _ (c .placed-at .ensures)
+    grouped (z .pre .0 .few) (room g) (g .before .before .narrow .ensures) (g .take-group .ensures) (s .add .ensures) _ (c .placed-at .ensures)
 
 pub add-group-spec : {M : Type 1} → statement M
 add-group-spec =

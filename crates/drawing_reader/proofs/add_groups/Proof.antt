@@ -1,11 +1,11 @@
 -- `drawing_reader::add_groups` meets its contract. The loop's invariant: the arrays hold a drawing from which the rest of the groups gives the whole result.
-use Prim.Native.Nat.{_-_}
-use mathlib.Core.Path.{_≡_, refl}
+use Prim.Native.Nat.{ℕ, _-_}
+use mathlib.Core.Path.{_≡_, sym}
 use native.Mathlib.Omega.{arith}
-use lib.ListN.{length}
+use lib.ListN.{length, length-replicate}
 use borrow.Author.Needs.{needs}
 use Rattle.rules.specs.Points.{Drawing}
-use Rattle.links.specs.Arrays.{arraysOf}
+use Rattle.tables.specs.Tables.{arraysIn}
 use Rattle.stored.specs.Adding.{Holds}
 use Rattle.drawing_reader.specs.Contracted.{restGroups}
 use Rattle.drawing_reader.proofs.Rests.{Going, going-start, going-on, stopped, all-answers, all-holds}
@@ -13,24 +13,24 @@ use Rattle.drawing_reader.proofs.add_groups.Statement.{statement}
 use Rattle.drawing_reader.proofs.add_groups.Tie as tie
 
 abbrev Inv-loop : tie.InvT-loop
-Inv-loop f base total next₀ gap₀ owner₀ ys₀ dls₀ drs₀ hs₀ words₀ later₀ bends₀ e₀ counts₀ next gap owner ys dls drs hs words later bends e counts =
-    (length e ≡ length e₀) ×
-    ((d : Drawing) → Holds d (arraysOf next₀ gap₀ owner₀ ys₀ dls₀ drs₀ hs₀ words₀ later₀ bends₀) counts₀ →
-    Going f base total (restGroups f base total counts₀ d) (arraysOf next gap owner ys dls drs hs words later bends) counts)
+Inv-loop f base total table₀ counts₀ e₀ table counts e =
+    (length e ≡ 3072) × ((d : Drawing) → Holds d (arraysIn table₀) counts₀ → Going f base total (restGroups f base total counts₀ d) (arraysIn table) counts)
 
 abbrev μ-loop : tie.MeasureT-loop
-μ-loop f base total next₀ gap₀ owner₀ ys₀ dls₀ drs₀ hs₀ words₀ later₀ bends₀ e₀ counts₀ next gap owner ys dls drs hs words later bends e counts =
-    counts .n - counts .k
+μ-loop f base total table₀ counts₀ e₀ table counts e = counts .n - counts .k
 
 loop-holds : tie.Need-loop-holds Inv-loop μ-loop
-loop-holds c = (refl, λ d h. going-start _ _ _ _ _ d (c .before .before .pre .few) h)
+loop-holds c = (length-replicate {A = ℕ} 3072 0, λ d h. going-start _ _ _ _ _ d (c .before .pre .few) h)
+
+slice-aggregate-add-group : tie.Need-slice-aggregate-add-group Inv-loop μ-loop
+slice-aggregate-add-group c = sym (c .before .before .before .before .loop .inv .0)
 
 add-group-requires : tie.Need-add-group-requires Inv-loop μ-loop
 add-group-requires c κs =
-    let l = c .before .before .before .before .before .before .before .before .before .before .before .before .before in
-    let z = l .before .before .before in
+    let l = c .before .before .before .before in
+    let z = l .before .before in
     let g = l .loop .inv .1 (z .pre .ready .d) (z .pre .ready .holds) in
-    record { there = z .pre .there; few = g .few; room = omega (arith, z .pre .room, l .loop .inv .0); ready = record { d = g .d; holds = g .holds } }
+    (record { there = z .pre .there; few = g .few; most = z .pre .most; ready = record { d = g .d; holds = g .holds } }, l .loop .inv .0)
 
 enum-told : tie.Need-enum-told Inv-loop μ-loop
 enum-told c = search needs
@@ -38,13 +38,10 @@ enum-told c = search needs
 enum-told-2 : tie.Need-enum-told-2 Inv-loop μ-loop
 enum-told-2 c = search needs
 
-same-length : tie.Need-same-length Inv-loop μ-loop
-same-length c = search needs
-
 returns : tie.Need-returns Inv-loop μ-loop
 returns c =
-    let g = c .before .before .before .before in
-    let t = g .before .before .before .before .before .before .before .before .before .before .before .before in
+    let g = c .before .before .before in
+    let t = g .before .before .before in
     let inv = t .before .before .loop .inv .1 in
     record {
       answers = λ d h. stopped (inv d h) (t .if1 .taken) (g .add-group .ensures) _ _ (c .enum-told2 .given .1) .0;
@@ -54,9 +51,9 @@ returns c =
 loop-less : tie.Need-loop-less Inv-loop μ-loop
 loop-less c =
     let m = c .before in
-    let g = m .before .before .before .before in
-    let t = g .before .before .before .before .before .before .before .before .before .before .before .before in
-    let z = t .before .before .before .before .before in
+    let g = m .before .before .before in
+    let t = g .before .before .before in
+    let z = t .before .before .before .before in
     let w = t .before .before .loop .inv .1 (z .pre .ready .d) (z .pre .ready .holds) in
     let b = g .add-group .ensures .behind-it (w .d) (w .holds) (m .enum-told .given .1) in
     omega (arith, b .n, b .k, t .if1 .taken)
@@ -64,12 +61,9 @@ loop-less c =
 loop-again : tie.Need-loop-again Inv-loop μ-loop
 loop-again c =
     let m = c .before in
-    let g = m .before .before .before .before in
-    let t = g .before .before .before .before .before .before .before .before .before .before .before .before in
+    let g = m .before .before .before in
+    let t = g .before .before .before in
     (search needs, λ d h. going-on (t .before .before .loop .inv .1 d h) (t .if1 .taken) (g .add-group .ensures) (m .enum-told .given .1))
-
-same-length-2 : tie.Need-same-length-2 Inv-loop μ-loop
-same-length-2 c = search needs
 
 returns-2 : tie.Need-returns-2 Inv-loop μ-loop
 returns-2 c =
@@ -83,12 +77,11 @@ add-groups-spec =
     Inv-loop
     μ-loop
     loop-holds
+    slice-aggregate-add-group
     add-group-requires
     enum-told
     enum-told-2
-    same-length
     returns
     loop-less
     loop-again
-    same-length-2
     returns-2)

@@ -21,11 +21,8 @@ returns c = refused-early _ (c .before .before .judge-file .ensures) _ _ (c .enu
 
 read-passed-requires : tie.Need-read-passed-requires
 read-passed-requires c κs =
-    let d = c .before .before .before .before .before .before .before .before .before .before .before in
-    (file-passes _ (accepted _ (sym (d .before .before .judge-file .ensures) ∙ d .enum-told .given .1)), d .before .before .before .before .before .pre)
-
-same-length : tie.Need-same-length
-same-length c = search needs
+    let d = c .before in
+    (file-passes _ (accepted _ (sym (d .before .before .judge-file .ensures) ∙ d .enum-told .given .1)), d .before .before .before .before .pre)
 
 returns-2 : tie.Need-returns-2
 returns-2 c = search needs
@@ -39,5 +36,4 @@ read-lines-spec =
     enum-told-2
     returns
     read-passed-requires
-    same-length
     returns-2)

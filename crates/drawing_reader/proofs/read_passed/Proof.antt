@@ -2,7 +2,7 @@
 use mathlib.Core.Path.{_≡_, _∙_}
 use native.Mathlib.Omega.{arith}
 use borrow.Author.Needs.{needs}
-use Rattle.links.specs.Arrays.{arraysOf}
+use Rattle.tables.specs.Tables.{arraysIn}
 use Rattle.links.specs.Opening.{openCounts}
 use Rattle.stored.specs.Adding.{Holds}
 use Rattle.drawing_judging.specs.Files.{nIn, sIn}
@@ -12,19 +12,19 @@ use Rattle.drawing_reader.proofs.read_passed.Statement.{statement}
 use Rattle.drawing_reader.proofs.read_passed.Tie as tie
 
 -- n and s
-n-is : (d : tie.After-broad) → d .broad .result ≡ nIn (d .before .before .before .before .args .f .now)
+n-is : (d : tie.After-broad) → d .broad .result ≡ nIn (d .before .before .before .args .f .now)
 n-is d = d .broad .ensures ∙ d .before .word-at .ensures
 
-s-is : (d : tie.After-broad2) → d .broad2 .result ≡ sIn (d .before .before .before .before .before .before .args .f .now)
+s-is : (d : tie.After-broad2) → d .broad2 .result ≡ sIn (d .before .before .before .before .before .args .f .now)
 s-is d = d .broad2 .ensures ∙ d .before .word-at2 .ensures
 
 -- the arrays as opened
 opened : (o : tie.After-open-in) →
-    let q = o .before .before .before .before .before .before .before .before .before .before .before .before .before .before in
-    Holds (begunIn (q .before .before .before .before .before .before .args .f .now)) (arraysOf (o .open-in .last .0) (o .open-in .last .1 .0) (o .open-in .last .1 .1 .0) (o .open-in .last .1 .1 .1 .0) (o .open-in .last .1 .1 .1 .1 .0) (o .open-in .last .1 .1 .1 .1 .1 .0) (o .open-in .last .1 .1 .1 .1 .1 .1 .0) (o .open-in .last .1 .1 .1 .1 .1 .1 .1 .0) (o .open-in .last .1 .1 .1 .1 .1 .1 .1 .1 .0) (o .open-in .last .1 .1 .1 .1 .1 .1 .1 .1 .1 .0)) (openCounts (q .before .before .broad .result) (q .broad2 .result))
+    let q = o .before .before .before .before .before in
+    Holds (begunIn (q .before .before .before .before .before .args .f .now)) (arraysIn (o .open-in .last .0)) (openCounts (q .before .before .broad .result) (q .broad2 .result))
 opened o =
-    let q = o .before .before .before .before .before .before .before .before .before .before .before .before .before .before in
-    opened-holds (q .before .before .before .before .before .before .pre .0) _ _ (n-is (q .before .before)) (s-is q) _ _ _ _ (o .before .before .before .before .before .before .before .before .before .before .before .before .before .entry-at .ensures) (o .before .before .before .before .before .before .before .before .before .before .before .before .entry-at2 .ensures) (o .before .before .before .before .before .before .before .before .before .before .before .entry-at3 .ensures) (o .open-in .ensures)
+    let q = o .before .before .before .before .before in
+    opened-holds (q .before .before .before .before .before .pre .0) _ _ (n-is (q .before .before)) (s-is q) _ _ _ _ (o .before .before .before .before .entry-at .ensures) (o .before .before .before .entry-at2 .ensures) (o .before .before .entry-at3 .ensures) (o .open-in .ensures)
 
 word-at-requires : tie.Need-word-at-requires
 word-at-requires c κs = search needs
@@ -70,20 +70,16 @@ sub-add-groups c = search needs
 
 add-groups-requires : tie.Need-add-groups-requires
 add-groups-requires c κs =
-    let o = c .before .before .before .before .before .before .before .before .before .before .before in
-    let z = o .before .before .before .before .before .before .before .before .before .before .before .before .before .before .before .before .before .before .before .before in
-    let l = lines-lie (z .pre .0) _ (n-is (o .before .before .before .before .before .before .before .before .before .before .before .before .before .before .before .before)) in
-    record { there = l .0; few = omega (arith, l .1); room = omega (arith, l .2, z .pre .1 .room); ready = record { d = _; holds = opened o } }
-
-same-length : tie.Need-same-length
-same-length c = search needs
+    let o = c .before in
+    let z = o .before .before .before .before .before .before .before .before .before .before in
+    let l = lines-lie (z .pre .0) _ (n-is (o .before .before .before .before .before .before .before)) in
+    record { there = l .0; few = omega (arith, l .1); most = omega (arith, l .2); ready = record { d = _; holds = opened o } }
 
 returns : tie.Need-returns
 returns c =
-    let g = c .before .before in
-    let o = g .before .before .before .before .before .before .before .before .before .before .before .before in
-    let q = o .before .before .before .before .before .before .before .before .before .before .before .before .before .before in
-    all-read (q .before .before .before .before .before .before .pre .0) _ _ (n-is (q .before .before)) (s-is q) (opened o) (g .add-groups .ensures)
+    let o = c .before .before in
+    let q = o .before .before .before .before .before in
+    all-read (q .before .before .before .before .before .pre .0) _ _ (n-is (q .before .before)) (s-is q) (opened o) (c .add-groups .ensures)
 
 pub read-passed-spec : {M : Type 1} → statement M
 read-passed-spec =
@@ -104,5 +100,4 @@ read-passed-spec =
     mul-add-groups
     sub-add-groups
     add-groups-requires
-    same-length
     returns)

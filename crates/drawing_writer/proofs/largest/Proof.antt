@@ -22,8 +22,8 @@ loop-holds c = search needs
 mul-broad : tie.Need-mul-broad Inv-loop μ-loop
 mul-broad c = search needs
 
-element-copy-out-broad : tie.Need-element-copy-out-broad Inv-loop μ-loop
-element-copy-out-broad c = search needs
+shared-slice-read-broad : tie.Need-shared-slice-read-broad Inv-loop μ-loop
+shared-slice-read-broad c = search needs
 
 broad-requires : tie.Need-broad-requires Inv-loop μ-loop
 broad-requires c κs = search needs
@@ -37,12 +37,12 @@ loop-less c = search needs
 loop-again : tie.Need-loop-again Inv-loop μ-loop
 loop-again c =
     let l = c .before .before .before .before in
-    let h = highest-more (l .before .args .ys .now) (l .loop .i) (omega arith) in
+    let h = highest-more (l .before .before .args .ys .now) (l .loop .i) (omega arith) in
     ⊎-elim (λ w. omega (arith, h)) (λ w. omega (arith, h)) (c .if1 .came)
 
 returns : tie.Need-returns Inv-loop μ-loop
 returns c =
-    let n : c .before .loop .i ≡ c .before .before .args .k = omega arith in
+    let n : c .before .loop .i ≡ c .before .before .before .args .k = omega arith in
     rw (c .before .loop .inv .1, n)
 
 pub largest-spec : {M : Type 1} → statement M
@@ -53,7 +53,7 @@ largest-spec =
     μ-loop
     loop-holds
     mul-broad
-    element-copy-out-broad
+    shared-slice-read-broad
     broad-requires
     add-i
     loop-less

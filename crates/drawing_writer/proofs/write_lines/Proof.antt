@@ -4,24 +4,19 @@ use mathlib.Core.Path.{_≡_, refl}
 use native.Mathlib.Omega.{arith}
 use borrow.Author.Needs.{needs}
 use lib.ListN.{length}
-use Rattle.drawing_writer.specs.Lists.{Lists, listsOf, several, lineBytes}
+use Rattle.tables.specs.Tables.{arraysIn}
+use Rattle.drawing_writer.specs.Lists.{several, lineBytes}
 use Rattle.drawing_writer.specs.Stores.{Stored, none-stored, record-behind}
 use Rattle.drawing_writer.proofs.Written.{length-line}
 use Rattle.drawing_writer.proofs.write_lines.Statement.{statement}
 use Rattle.drawing_writer.proofs.write_lines.Tie as tie
 
 abbrev Inv-loop : tie.InvT-loop
-Inv-loop out₀ at x ys dls drs hs words later bends s count e₀ out e =
-    (e ≤ count) × (length out ≡ length out₀) × Stored out₀ at (several (lineBytes s (listsOf x ys dls drs hs words later bends)) e) out
+Inv-loop out₀ at x table s count e₀ out e =
+    (e ≤ count) × (length out ≡ length out₀) × Stored out₀ at (several (lineBytes s x (arraysIn table)) e) out
 
 abbrev μ-loop : tie.MeasureT-loop
-μ-loop out₀ at x ys dls drs hs words later bends s count e₀ out e = count - e
-
--- the lists at entry
-abbrev lists : tie.Start Inv-loop μ-loop → Lists
-lists c =
-    let a = c .args in
-    listsOf (a .x .now) (a .ys .now) (a .dls .now) (a .drs .now) (a .hs .now) (a .words .now) (a .later .now) (a .bends .now)
+μ-loop out₀ at x table s count e₀ out e = count - e
 
 loop-holds : tie.Need-loop-holds Inv-loop μ-loop
 loop-holds c = (omega arith, refl, none-stored _ _ _)
@@ -35,8 +30,8 @@ add-write-line c = search needs
 write-line-requires : tie.Need-write-line-requires Inv-loop μ-loop
 write-line-requires c κs =
     let l = c .before .before in
-    let p = l .before .before .pre in
-    record { long = p .long; line = omega arith; fits = p .fits (l .loop .e) (omega arith); room = omega arith }
+    let p = l .before .before .before .pre in
+    (record { line = omega arith; fits = p .0 .fits (l .loop .e) (omega arith); room = omega (arith, p .0 .room) }, p .1)
 
 add-e : tie.Need-add-e Inv-loop μ-loop
 add-e c = search needs
@@ -48,10 +43,10 @@ loop-again : tie.Need-loop-again Inv-loop μ-loop
 loop-again c =
     let w = c .before .before in
     let l = w .before .before .before in
-    let a = l .before .before .args in (
+    let a = l .before .before .before .args in (
       omega arith,
       omega arith,
-      record-behind (lineBytes (a .s) (lists (l .before .before))) 12 (l .loop .e) (length-line (a .s) (lists (l .before .before))) refl (l .loop .inv .2) (w .write-line .ensures),
+      record-behind (lineBytes (a .s) (a .x .now) (arraysIn (a .table .now))) 12 (l .loop .e) (length-line (a .s) (a .x .now) (arraysIn (a .table .now))) refl (l .loop .inv .2) (w .write-line .ensures),
     )
 
 same-length : tie.Need-same-length Inv-loop μ-loop
@@ -59,7 +54,7 @@ same-length c = search needs
 
 returns : tie.Need-returns Inv-loop μ-loop
 returns c =
-    let n : c .before .loop .e ≡ c .before .before .before .args .count = omega arith in
+    let n : c .before .loop .e ≡ c .before .before .before .before .args .count = omega arith in
     rw n at (c .before .loop .inv .2)
 
 pub write-lines-spec : {M : Type 1} → statement M

@@ -20,11 +20,11 @@ loop-holds : tie.Need-loop-holds Inv-loop μ-loop
 loop-holds c = (omega arith, refl, none-stored _ _ _)
 
 -- the coordinates times s fit
-x-fits : (c : tie.After-broad Inv-loop μ-loop) → c .before .before .before .before .before .args .s * c .broad .result < 65536
-x-fits c = let l = c .before .before .before in rw (c .broad .ensures) (l .before .before .pre .x (l .loop .i) (omega arith))
+x-fits : (c : tie.After-broad Inv-loop μ-loop) → c .before .before .before .before .before .before .args .s * c .broad .result < 65536
+x-fits c = let l = c .before .before .before in rw (c .broad .ensures) (l .before .before .before .pre .x (l .loop .i) (omega arith))
 
-y-fits : (c : tie.After-broad2 Inv-loop μ-loop) → c .before .before .before .before .before .before .before .before .args .s * c .broad2 .result < 65536
-y-fits c = let l = c .before .before .before .before .before .before in rw (c .broad2 .ensures) (l .before .before .pre .y (l .loop .i) (omega arith))
+y-fits : (c : tie.After-broad2 Inv-loop μ-loop) → c .before .before .before .before .before .before .before .before .before .args .s * c .broad2 .result < 65536
+y-fits c = let l = c .before .before .before .before .before .before in rw (c .broad2 .ensures) (l .before .before .before .pre .y (l .loop .i) (omega arith))
 
 mul-broad : tie.Need-mul-broad Inv-loop μ-loop
 mul-broad c = search needs
@@ -44,8 +44,8 @@ narrow-requires c κs = x-fits c
 mul-broad-2 : tie.Need-mul-broad-2 Inv-loop μ-loop
 mul-broad-2 c = search needs
 
-element-copy-out-broad-2 : tie.Need-element-copy-out-broad-2 Inv-loop μ-loop
-element-copy-out-broad-2 c = search needs
+shared-slice-read-broad : tie.Need-shared-slice-read-broad Inv-loop μ-loop
+shared-slice-read-broad c = search needs
 
 broad-requires-2 : tie.Need-broad-requires-2 Inv-loop μ-loop
 broad-requires-2 c κs = search needs
@@ -77,7 +77,7 @@ loop-again c =
     let y = w .before .before in
     let x = y .before .before .before in
     let l = x .before .before .before .before in
-    let a = l .before .before .args in (
+    let a = l .before .before .before .args in (
       omega arith,
       omega arith,
       record-behind (pointBytes (a .s) (a .x .now) (a .ys .now)) 6 (l .loop .i) (λ j. refl) refl (l .loop .inv .2)
@@ -89,7 +89,7 @@ same-length c = search needs
 
 returns : tie.Need-returns Inv-loop μ-loop
 returns c =
-    let n : c .before .loop .i ≡ c .before .before .before .args .k = omega arith in
+    let n : c .before .loop .i ≡ c .before .before .before .before .args .k = omega arith in
     rw n at (c .before .loop .inv .2)
 
 pub write-points-spec : {M : Type 1} → statement M
@@ -105,7 +105,7 @@ write-points-spec =
     mul-narrow
     narrow-requires
     mul-broad-2
-    element-copy-out-broad-2
+    shared-slice-read-broad
     broad-requires-2
     mul-narrow-2
     narrow-requires-2

@@ -13,13 +13,13 @@ use Rattle.judging.proofs.judge.Tie as tie
 
 -- once 6 and 7 have passed
 placed : (d : tie.After-enum-told) →
-    let a = d .before .before .before .before .before .before .args in
+    let a = d .before .before .before .before .before .before .before .before .args in
     answer (entriesPass (a .owner .now) (a .c .k) 0 (a .e .now)) ≡ Accepted
 placed d = sym (d .before .before .judge-entries .ensures) ∙ d .enum-told .given .1
 
 -- once 8 has passed
 linked : (d : tie.After-enum-told3) →
-    let a = d .before .before .before .before .before .before .before .before .before .args in
+    let a = d .before .before .before .before .before .before .before .before .before .before .before .args in
     answer (runPasses (a .next .now) (a .e .now)) ≡ Accepted
 linked d = sym (d .before .before .judge-run .ensures) ∙ d .enum-told3 .given .1
 
@@ -46,8 +46,8 @@ returns-3 c =
 judge-run-requires : tie.Need-judge-run-requires
 judge-run-requires c κs =
     let z = c .before .before .before .before .before .before in
-    let a = z .args in
-    (z .pre .1, within-up (a .c .k) 1024 (a .e .now) (z .pre .2) (entries-within (a .owner .now) (a .c .k) 0 (a .e .now) (accepted _ (placed c) .is)))
+    let a = z .before .before .args in
+    (z .before .before .pre .1, within-up (a .c .k) 1024 (a .e .now) (z .before .before .pre .2) (entries-within (a .owner .now) (a .c .k) 0 (a .e .now) (accepted _ (placed c) .is)))
 
 enum-told-3 : tie.Need-enum-told-3
 enum-told-3 c = search needs

@@ -21,8 +21,8 @@ abbrev μ-loop : tie.MeasureT-loop
 placed : (d : tie.After-broad Inv-loop μ-loop) → (0 < d .broad .result) × (d .broad .result ≤ 1024)
 placed d =
     let b = d .before .before .before .before in
-    let w = b .before .before .pre .1 in
-    let h : b .loop .i - 1 < length (b .before .before .args .e .now) = search needs in
+    let w = b .before .before .before .pre .1 in
+    let h : b .loop .i - 1 < length (b .before .before .before .args .e .now) = search needs in
     let same = d .broad .ensures ∙ d .before .point-of .ensures in
     (omega (arith, same, w .low _ h), omega (arith, same, w .high _ h))
 
@@ -30,17 +30,17 @@ placed d =
 turn : (d : tie.After-point-of2 Inv-loop μ-loop) →
     let p = d .before .before in
     let b = p .before .before .before .before in
-    let a = b .before .before .args in
+    let a = b .before .before .before .args in
     runPasses (a .next .now) (a .e .now) ≡
     linkFirst (a .next .now) (b .loop .i) (p .broad .result) (d .point-of2 .result) (linksPass (a .next .now) (b .loop .i + 1) (entryPoint (a .e .now) (b .loop .i + 1 - 1)) (drop (b .loop .i + 1) (a .e .now)))
 turn d =
     let p = d .before .before in
     let b = p .before .before .before .before in
-    let a = b .before .before .args in
+    let a = b .before .before .before .args in
     b .loop .inv .1 ∙ link-turn (a .next .now) (a .e .now) (b .loop .i) (p .broad .result) (d .point-of2 .result) (search needs) (p .broad .ensures ∙ p .before .point-of .ensures) (d .point-of2 .ensures)
 
 loop-holds : tie.Need-loop-holds Inv-loop μ-loop
-loop-holds c = (search needs, link-start (c .before .args .next .now) (c .before .args .e .now))
+loop-holds c = (search needs, link-start (c .before .before .args .next .now) (c .before .before .args .e .now))
 
 sub-point-of : tie.Need-sub-point-of Inv-loop μ-loop
 sub-point-of c = search needs
@@ -72,8 +72,8 @@ sub-if1 c = omega (arith, placed (c .before .before) .0)
 mul-if1 : tie.Need-mul-if1 Inv-loop μ-loop
 mul-if1 c = omega (arith, placed (c .before .before) .1)
 
-element-copy-out-if1 : tie.Need-element-copy-out-if1 Inv-loop μ-loop
-element-copy-out-if1 c = omega (arith, placed (c .before .before) .0, placed (c .before .before) .1)
+shared-slice-read-if1 : tie.Need-shared-slice-read-if1 Inv-loop μ-loop
+shared-slice-read-if1 c = omega (arith, placed (c .before .before .before) .0, placed (c .before .before .before) .1)
 
 returns : tie.Need-returns Inv-loop μ-loop
 returns c = rw (turn (c .before .before), ne-eqb _ _ (c .if1 .taken))
@@ -107,7 +107,7 @@ judge-run-spec =
     point-of-requires-2
     sub-if1
     mul-if1
-    element-copy-out-if1
+    shared-slice-read-if1
     returns
     add-i
     loop-less

@@ -1,7 +1,8 @@
 -- `order_reader::read_order` meets its contract: the header, then the points.
 use Prim.Native.Nat.{ℕ}
 use mathlib.Core.List.{List}
-use Rattle.links.specs.Arrays.{Arrays, arraysOf}
+use Rattle.links.specs.Arrays.{Arrays}
+use Rattle.tables.specs.Tables.{arraysIn}
 use Rattle.order_reader.proofs.Opens.{head-refused, head-going, head-gave}
 use borrow.Author.Needs.{needs}
 use Rattle.order_reader.proofs.read_order.Statement.{statement}
@@ -9,21 +10,17 @@ use Rattle.order_reader.proofs.read_order.Tie as tie
 
 -- the function's start, and the file
 abbrev start : tie.After-read-head → tie.Start
-start y = y .before .before .before
+start y = y .before .before
 
 abbrev file : tie.After-read-head → List ℕ
 file y = start y .args .f .now
 
--- the arrays before and after the points are read
-abbrev before : tie.After-read-head → Arrays
-before y =
-    let a = start y .args in
-    arraysOf (a .next .now) (a .gap .now) (a .owner .now) (a .ys .now) (a .dls .now) (a .drs .now) (a .hs .now) (a .words .now) (a .later .now) (a .bends .now)
+-- the table, and the arrays after the points are read
+abbrev before : tie.After-read-head → List ℕ
+before y = start y .args .table .now
 
 abbrev after : tie.After-read-points → Arrays
-after t =
-    let l = t .read-points .last .1 .1 .1 .1 in
-    arraysOf (l .0) (l .1 .0) (l .1 .1 .0) (l .1 .1 .1 .0) (l .1 .1 .1 .1 .0) (l .1 .1 .1 .1 .1 .0) (l .1 .1 .1 .1 .1 .1 .0) (l .1 .1 .1 .1 .1 .1 .1 .0) (l .1 .1 .1 .1 .1 .1 .1 .1 .0) (l .1 .1 .1 .1 .1 .1 .1 .1 .1 .0)
+after t = arraysIn (t .read-points .last .1 .1 .1 .1 .0)
 
 -- from there back to the header
 abbrev header : tie.After-known-told2 → tie.After-read-head
@@ -43,25 +40,21 @@ enum-known-n c = search needs
 
 read-points-requires : tie.Need-read-points-requires
 read-points-requires c κs =
-    let d = c .before .before .before .before .before .before .before .before .before .before .before in
+    let d = c .before in
     let y = header d in
-    head-going (file y) (y .read-head .result) (y .read-head .ensures) (d .before .n .given .0 .0) (d .before .n .given .0 .1 .0) (d .before .n .given .0 .1 .1 .0) (d .before .n .given .1) (before y) (start y .args .e .now) (start y .pre)
+    head-going (file y) (y .read-head .result) (y .read-head .ensures) (d .before .n .given .0 .0) (d .before .n .given .0 .1 .0) (d .before .n .given .0 .1 .1 .0) (d .before .n .given .1) (before y) (start y .pre)
 
 returns : tie.Need-returns
 returns c =
     let r = c .before .before in
     let y = r .before .before in
-    head-refused (file y) (y .read-head .result) (y .read-head .ensures) _ _ (r .r .given .1) (c .refuse .result) (c .refuse .ensures) (before y)
-
-same-length : tie.Need-same-length
-same-length c = c .before .before .read-points .kept .1 .1 .1 .1 .1 .1 .1 .1 .1 .1 .1 .1 .1 .1 .0
+    head-refused (file y) (y .read-head .result) (y .read-head .ensures) _ _ (r .r .given .1) (c .refuse .result) (c .refuse .ensures) (arraysIn (before y))
 
 returns-2 : tie.Need-returns-2
 returns-2 c =
-    let t = c .before .before in
-    let d = t .before .before .before .before .before .before .before .before .before .before .before .before in
+    let d = c .before .before in
     let y = header d in
-    head-gave (file y) (y .read-head .result) (y .read-head .ensures) (d .before .n .given .0 .0) (d .before .n .given .0 .1 .0) (d .before .n .given .0 .1 .1 .0) (d .before .n .given .1) (after t) (t .read-points .result) (t .read-points .ensures)
+    head-gave (file y) (y .read-head .result) (y .read-head .ensures) (d .before .n .given .0 .0) (d .before .n .given .0 .1 .0) (d .before .n .given .0 .1 .1 .0) (d .before .n .given .1) (after c) (c .read-points .result) (c .read-points .ensures)
 
 pub read-order-spec : {M : Type 1} → statement M
 read-order-spec =
@@ -73,5 +66,4 @@ read-order-spec =
     enum-known-n
     read-points-requires
     returns
-    same-length
     returns-2)

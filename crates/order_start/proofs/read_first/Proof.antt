@@ -1,31 +1,28 @@
 -- `order_start::read_first` meets its contract: each return is a case of the record and its test.
 use Prim.Native.Nat.{ℕ}
 use mathlib.Core.Path.{subst}
-use mathlib.Core.List.{List}
 use Rattle.records.specs.Reading.{EntriesRead, Got}
 use Rattle.order_start.proofs.Starts.{first-bad, first-count, first-in}
 use borrow.Author.Needs.{needs}
 use Rattle.order_start.proofs.read_first.Statement.{statement}
 use Rattle.order_start.proofs.read_first.Tie as tie
 
--- the function's start, and the entries that were read
-abbrev start : tie.After-slice-known2 → tie.Start
-start d = d .before .before .before .before .before .before
+-- the record, whose file the function's start has
+abbrev start : tie.After-read-entries → tie.Start
+start y = y .before .before
 
-abbrev read : tie.After-slice-known2 → List ℕ
-read d = d .before .before .read-entries .last .1 .1 .0
-
--- the record
-got : (d : tie.After-known-told2) → let k = d .before .before .before in Got (start k .args .f .now) (start k .args .at) (read k) (d .before .count .given .0 .0) (d .before .count .given .0 .1 .0)
-got d =
-    let k = d .before .before .before in
-    subst (EntriesRead (start k .args .f .now) (start k .args .at) (read k)) (d .before .count .given .1) (k .before .before .read-entries .ensures)
+got : (d : tie.After-known-told2) →
+    let y = d .before .before .before in
+    Got (start y .args .f .now) (start y .args .at) (d .before .count .given .0 .0) (d .before .count .given .0 .1 .0) (d .before .count .given .0 .1 .1 .0)
+got d = let y = d .before .before .before in subst (EntriesRead (start y .args .f .now) (start y .args .at)) (d .before .count .given .1) (y .read-entries .ensures)
 
 -- it has no entry
-none : (d : tie.Else1) → let k = d .before .before .before .before in Got (start k .args .f .now) (start k .args .at) (read k) 0 (d .before .before .count .given .0 .1 .0)
+none : (d : tie.Else1) →
+    let y = d .before .before .before .before in
+    Got (start y .args .f .now) (start y .args .at) 0 (d .before .before .count .given .0 .1 .0) (d .before .before .count .given .0 .1 .1 .0)
 none d =
-    let k = d .before .before .before .before in
-    subst (λ (c : ℕ). Got (start k .args .f .now) (start k .args .at) (read k) c (d .before .before .count .given .0 .1 .0)) (d .if1 .left) (got (d .before))
+    let y = d .before .before .before .before in
+    subst (λ (c : ℕ). Got (start y .args .f .now) (start y .args .at) c (d .before .before .count .given .0 .1 .0) (d .before .before .count .given .0 .1 .1 .0)) (d .if1 .left) (got (d .before))
 
 read-entries-requires : tie.Need-read-entries-requires
 read-entries-requires c κs = search needs
@@ -36,31 +33,20 @@ enum-known-r c = search needs
 enum-known-count : tie.Need-enum-known-count
 enum-known-count c = search needs
 
-same-length : tie.Need-same-length
-same-length c = search needs
-
 returns : tie.Need-returns
 returns c = first-count (got (c .before)) (c .if1 .taken)
 
 read-second-requires : tie.Need-read-second-requires
-read-second-requires c κs = (none (c .before) .room, search needs)
-
-same-length-2 : tie.Need-same-length-2
-same-length-2 c = search needs
+read-second-requires c κs = none c .room
 
 returns-2 : tie.Need-returns-2
 returns-2 c =
-    let k = c .before .before .before in
-    let z = start k .args in
-    first-bad (z .f .now) (z .at) _ _ (subst (EntriesRead (z .f .now) (z .at) (read k)) (c .before .r .given .1) (k .before .before .read-entries .ensures))
-
-same-length-3 : tie.Need-same-length-3
-same-length-3 c = search needs
+    let y = c .before .before .before in
+    let z = start y .args in
+    first-bad (z .f .now) (z .at) _ _ (subst (EntriesRead (z .f .now) (z .at)) (c .before .r .given .1) (y .read-entries .ensures))
 
 returns-3 : tie.Need-returns-3
-returns-3 c =
-    let t = c .before .before in
-    first-in (none (t .before .before)) (t .read-second .result) (t .read-second .ensures)
+returns-3 c = first-in (none (c .before)) (c .read-second .result) (c .read-second .ensures)
 
 pub read-first-spec : {M : Type 1} → statement M
 read-first-spec =
@@ -69,10 +55,7 @@ read-first-spec =
     read-entries-requires
     enum-known-r
     enum-known-count
-    same-length
     returns
     read-second-requires
-    same-length-2
     returns-2
-    same-length-3
     returns-3)

@@ -24,8 +24,8 @@ add-broad c = search needs
 mul-broad : tie.Need-mul-broad Inv-loop μ-loop
 mul-broad c = search needs
 
-element-copy-out-broad : tie.Need-element-copy-out-broad Inv-loop μ-loop
-element-copy-out-broad c = search needs
+shared-slice-read-broad : tie.Need-shared-slice-read-broad Inv-loop μ-loop
+shared-slice-read-broad c = search needs
 
 broad-requires : tie.Need-broad-requires Inv-loop μ-loop
 broad-requires c κs = search needs
@@ -59,7 +59,7 @@ count-lines-spec =
     loop-holds
     add-broad
     mul-broad
-    element-copy-out-broad
+    shared-slice-read-broad
     broad-requires
     returns
     add-count

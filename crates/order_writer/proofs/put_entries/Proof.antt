@@ -21,8 +21,8 @@ add-joined c = search needs
 mul-joined : tie.Need-mul-joined Inv-loop μ-loop
 mul-joined c = search needs
 
-element-copy-out-joined : tie.Need-element-copy-out-joined Inv-loop μ-loop
-element-copy-out-joined c = search needs
+shared-slice-read-joined : tie.Need-shared-slice-read-joined Inv-loop μ-loop
+shared-slice-read-joined c = search needs
 
 joined-requires : tie.Need-joined-requires Inv-loop μ-loop
 joined-requires c κs = search needs
@@ -30,13 +30,13 @@ joined-requires c κs = search needs
 put-word-requires : tie.Need-put-word-requires Inv-loop μ-loop
 put-word-requires c κs =
     let b = c .before .before .before in
-    entering-room (b .before .loop .inv) (b .loop-test .taken) (b .before .before .before .pre .1)
+    entering-room (b .before .loop .inv) (b .loop-test .taken) (b .before .before .before .before .pre .2)
 
 add-place : tie.Need-add-place Inv-loop μ-loop
 add-place c =
     let b = c .before .before .before .before .before .before in
     let a = b .before .before .before in
-    omega (arith, entering-room (b .before .loop .inv) (b .loop-test .taken) (a .pre .1), b .before .loop .inv .ahead .long, a .good)
+    omega (arith, entering-room (b .before .loop .inv) (b .loop-test .taken) (a .before .pre .2), b .before .loop .inv .ahead .long, a .before .good)
 
 add-i : tie.Need-add-i Inv-loop μ-loop
 add-i c = search needs
@@ -65,7 +65,7 @@ put-entries-spec =
     loop-holds
     add-joined
     mul-joined
-    element-copy-out-joined
+    shared-slice-read-joined
     joined-requires
     put-word-requires
     add-place

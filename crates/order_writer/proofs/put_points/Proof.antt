@@ -15,7 +15,7 @@ loop-holds : tie.Need-loop-holds Inv-loop μ-loop
 loop-holds c = pointing-start _ _ _ _ _ _
 
 count-lines-requires : tie.Need-count-lines-requires Inv-loop μ-loop
-count-lines-requires c κs = (c .before .loop .inv .lines-left, c .before .before .before .pre .1)
+count-lines-requires c κs = (c .before .before .before .before .before .pre .1, c .before .loop .inv .lines-left, c .before .before .before .before .before .pre .3)
 
 put-point-requires : tie.Need-put-point-requires Inv-loop μ-loop
 put-point-requires c κs =
@@ -25,16 +25,16 @@ put-point-requires c κs =
     let h = b .before .loop .inv in
     let w = b .loop-test .taken in
     let e = d .count-lines .ensures in
-    (omega (arith, pointing-lines h w e, a .pre .1), pointing-room h w e (a .pre .2))
+    (a .before .before .pre .0, omega (arith, pointing-lines h w e, a .before .before .pre .3), pointing-room h w e (a .before .before .pre .4))
 
 add-from : tie.Need-add-from Inv-loop μ-loop
 add-from c =
     let d = c .before .before .before .before in
     let b = d .before in
-    omega (arith, pointing-lines (b .before .loop .inv) (b .loop-test .taken) (d .count-lines .ensures), b .before .before .before .pre .1)
+    omega (arith, pointing-lines (b .before .loop .inv) (b .loop-test .taken) (d .count-lines .ensures), b .before .before .before .before .before .pre .3)
 
 add-p : tie.Need-add-p Inv-loop μ-loop
-add-p c = let b = c .before .before .before .before .before in omega (arith, b .loop-test .taken, b .before .before .before .pre .0)
+add-p c = let b = c .before .before .before .before .before in omega (arith, b .loop-test .taken, b .before .before .before .before .before .pre .2)
 
 loop-less : tie.Need-loop-less Inv-loop μ-loop
 loop-less c = let b = c .before .before .before .before .before in omega (arith, b .loop-test .taken)

@@ -1,8 +1,8 @@
 -- `panel::drawing_file` meets its contract.
 use Prim.Native.Nat.{_≤_}
-use borrow.Author.Needs.{needs}
 use Rattle.panel.specs.Outputs.{turned}
 use Rattle.panel.specs.Finishing.{early, late, whole-late, ended-late}
+use borrow.Author.Needs.{needs}
 use Rattle.panel.proofs.drawing_file.Statement.{statement}
 use Rattle.panel.proofs.drawing_file.Tie as tie
 
@@ -10,15 +10,16 @@ returns : tie.Need-returns
 returns c q r t = rw (early t _ (c .if1 .taken)) (turned _ _ _)
 
 put-drawing-requires : tie.Need-put-drawing-requires
-put-drawing-requires c κs = ended-late (c .before .before .before .before .before .before .before .before .before .before .before .before .before .before .before .before .before .before .before .before .before .before .before .before .before .pre) (search needs)
+put-drawing-requires c κs = ended-late (c .before .before .before .before .before .before .before .pre) (search needs)
 
 same-length : tie.Need-same-length
 same-length c = search needs
 
 returns-2 : tie.Need-returns-2
 returns-2 c q r t =
-    let h : c .before .before .before .before .before .before .before .before .before .before .before .before .before .before .before .before .before .before .before .before .before .before .before .before .before .before .before .before .args .d .counts .n ≤ c .before .before .before .before .before .before .before .before .before .before .before .before .before .before .before .before .before .before .before .before .before .before .before .before .before .before .before .before .args .d .counts .k = search needs in
-    rw (late t _ h) (c .before .before .put-drawing .ensures _ (whole-late t r h) t)
+    let p = c .before .before in
+    let h = p .before .before .before .before .if1 .left in
+    rw (late t _ h) (p .put-drawing .ensures _ (whole-late t r h) t)
 
 pub drawing-file-spec : {M : Type 1} → statement M
 drawing-file-spec = tie.close (tie.spec returns put-drawing-requires same-length returns-2)

@@ -1,16 +1,12 @@
 -- `panel::drawing_of` meets its contract: what the order reader gave, by value.
 use mathlib.Core.Path.{refl}
-use borrow.Author.Needs.{needs}
 use Rattle.panel.specs.Reading.{given, withheld}
+use borrow.Author.Needs.{needs}
 use Rattle.panel.proofs.drawing_of.Statement.{statement}
 use Rattle.panel.proofs.drawing_of.Tie as tie
 
-slice-aggregate-read-order : tie.Need-slice-aggregate-read-order
-slice-aggregate-read-order c = search needs
-
 read-order-requires : tie.Need-read-order-requires
-read-order-requires c κs =
-    record { zeros = record { next = refl; gap = refl; owner = refl; ys = refl; dls = refl; drs = refl; hs = refl; words = refl; later = refl; bends = refl }; room = refl }
+read-order-requires c κs = search needs
 
 enum-told : tie.Need-enum-told
 enum-told c = search needs
@@ -22,19 +18,12 @@ no-drawing-requires : tie.Need-no-drawing-requires
 no-drawing-requires c κs = search needs
 
 returns : tie.Need-returns
-returns c = withheld _ (c .before .before .before .before .before .read-order .ensures) _ _ (c .before .enum-told2 .given .1) (c .no-drawing .ensures)
+returns c = withheld _ (c .before .before .before .before .read-order .ensures) _ _ (c .before .enum-told2 .given .1) (c .no-drawing .ensures)
 
 returns-2 : tie.Need-returns-2
-returns-2 c = given _ (c .before .before .before .before .read-order .ensures) refl refl (c .enum-told .given .1)
+returns-2 c = given _ (c .before .before .before .read-order .ensures) refl refl (c .enum-told .given .1)
 
 pub drawing-of-spec : {M : Type 1} → statement M
 drawing-of-spec =
     tie.close
-    (tie.spec
-    slice-aggregate-read-order
-    read-order-requires
-    enum-told
-    enum-told-2
-    no-drawing-requires
-    returns
-    returns-2)
+    (tie.spec read-order-requires enum-told enum-told-2 no-drawing-requires returns returns-2)

@@ -1,18 +1,13 @@
 -- `panel::undraw` meets its contract: what the reader gave is a whole drawing, whose bytes are compared and whose order file is then written, or a refusal.
-use mathlib.Core.Path.{refl, sym, _∙_}
+use mathlib.Core.Path.{sym, _∙_}
 use borrow.Author.Needs.{needs}
 use Rattle.panel.specs.Outputs.{turned}
-use Rattle.order_writer.specs.Writing.{lines-stored}
 use Rattle.panel.specs.Undrawing.{lines-ended, lines-refused, bytes-differ, bytes-same}
 use Rattle.panel.proofs.undraw.Statement.{statement}
 use Rattle.panel.proofs.undraw.Tie as tie
 
-slice-aggregate-read-lines : tie.Need-slice-aggregate-read-lines
-slice-aggregate-read-lines c = search needs
-
 read-lines-requires : tie.Need-read-lines-requires
-read-lines-requires c κs =
-    record { zeros = record { next = refl; gap = refl; owner = refl; ys = refl; dls = refl; drs = refl; hs = refl; words = refl; later = refl; bends = refl }; room = refl }
+read-lines-requires c κs = search needs
 
 enum-known-answer : tie.Need-enum-known-answer
 enum-known-answer c = search needs
@@ -21,14 +16,14 @@ enum-told : tie.Need-enum-told
 enum-told c = search needs
 
 -- where the answer was told
-told : tie.After-bends2 → tie.After-enum-told
-told c = c .before .before .before .before .before .before .before .before .before .before
+told : tie.After-table2 → tie.After-enum-told
+told c = c .before
 
 compare-drawing-requires : tie.Need-compare-drawing-requires
 unfolding told
 compare-drawing-requires c κs =
     let t = told c in
-    lines-ended _ (t .before .before .before .before .read-lines .ensures) (t .enum-told .given .1)
+    lines-ended _ (t .before .before .before .read-lines .ensures) (t .enum-told .given .1)
 
 enum-known-same : tie.Need-enum-known-same
 enum-known-same c = search needs
@@ -39,20 +34,19 @@ enum-told-2 c = search needs
 put-order-requires : tie.Need-put-order-requires
 unfolding told
 put-order-requires c κs =
-    let t = told (c .before .before .before .before .before .before) in
-    let e = lines-ended _ (t .before .before .before .before .read-lines .ensures) (t .enum-told .given .1) in
-    record { d = e .d; whole = e .whole; stored = lines-stored (e .holds .stores) }
+    let t = told (c .before .before .before .before .before) in
+    lines-ended _ (t .before .before .before .read-lines .ensures) (t .enum-told .given .1)
 
 returns : tie.Need-returns
 returns c =
-    rw (lines-refused _ (c .before .before .before .before .before .read-lines .ensures) _ _ (c .before .answer .given .1)) (turned _ _ _)
+    rw (lines-refused _ (c .before .before .before .before .read-lines .ensures) _ _ (c .before .answer .given .1)) (turned _ _ _)
 
 returns-2 : tie.Need-returns-2
 unfolding told
 returns-2 c =
     let b = c .before .before .before in
     let t = told (b .before) in
-    let g = t .before .before .before .before .read-lines .ensures in
+    let g = t .before .before .before .read-lines .ensures in
     let h = t .enum-told .given .1 in
     let e = lines-ended _ g h in
     rw (bytes-differ _ g h _ _ (sym (b .compare-drawing .ensures (e .d) (e .whole) (e .holds)) ∙ c .before .same .given .1)) (turned _ _ _)
@@ -64,19 +58,18 @@ returns-3 : tie.Need-returns-3
 unfolding told
 returns-3 c =
     let p = c .before .before in
-    let q = p .before .before .before .before in
+    let q = p .before .before .before in
     let b = q .before .before in
     let t = told (b .before) in
-    let g = t .before .before .before .before .read-lines .ensures in
+    let g = t .before .before .before .read-lines .ensures in
     let h = t .enum-told .given .1 in
     let e = lines-ended _ g h in
-    rw (bytes-same _ g h (sym (b .compare-drawing .ensures (e .d) (e .whole) (e .holds)) ∙ q .enum-told2 .given .1)) (p .put-order .ensures (e .d) (e .whole) (lines-stored (e .holds .stores)))
+    rw (bytes-same _ g h (sym (b .compare-drawing .ensures (e .d) (e .whole) (e .holds)) ∙ q .enum-told2 .given .1)) (p .put-order .ensures (e .d) (e .whole) (e .holds))
 
 pub undraw-spec : {M : Type 1} → statement M
 undraw-spec =
     tie.close
     (tie.spec
-    slice-aggregate-read-lines
     read-lines-requires
     enum-known-answer
     enum-told

@@ -17,10 +17,10 @@ abbrev μ-loop : tie.MeasureT-loop
 μ-loop p gap ys e inner a₀ i₀ a i = innerCount e - i
 
 -- the test of a turn is the definition's
-reached : (c : tie.After-either-reaches Inv-loop μ-loop) → let b = c .before .before .before .before .before in let a = b .before .before .args in c .either-reaches .result ≡ (portReaches (a .p) (a .gap .now) (a .ys .now) (a .e .now) (b .loop .i + 1) (b .loop .i + 1) || portReaches (a .p) (a .gap .now) (a .ys .now) (a .e .now) (suc (b .loop .i + 1)) (b .loop .i + 1))
+reached : (c : tie.After-either-reaches Inv-loop μ-loop) → let b = c .before .before .before .before .before in let a = b .before .before .before .before .args in c .either-reaches .result ≡ (portReaches (a .p) (a .gap .now) (a .ys .now) (a .e .now) (b .loop .i + 1) (b .loop .i + 1) || portReaches (a .p) (a .gap .now) (a .ys .now) (a .e .now) (suc (b .loop .i + 1)) (b .loop .i + 1))
 reached c =
     let b = c .before .before .before .before .before in
-    let a = b .before .before .args in
+    let a = b .before .before .before .before .args in
     let q = c .before .before .before .point-at in
     let g = c .before .before .at-point in
     let y = c .before .at-point2 in
@@ -31,7 +31,7 @@ sub-inner c = search needs
 
 loop-holds : tie.Need-loop-holds Inv-loop μ-loop
 loop-holds c =
-    let z : innerCount (c .before .args .e .now) - 0 ≡ innerCount (c .before .args .e .now) = omega arith in
+    let z : innerCount (c .before .before .before .args .e .now) - 0 ≡ innerCount (c .before .before .before .args .e .now) = omega arith in
     (omega arith, omega arith, omega arith, rw z)
 
 add-i : tie.Need-add-i Inv-loop μ-loop
@@ -55,7 +55,7 @@ either-reaches-requires c κs = search needs
 returns : tie.Need-returns Inv-loop μ-loop
 returns c =
     let b = c .before .before .before .before .before .before in
-    let a = b .before .before .args in
+    let a = b .before .before .before .before .args in
     sym (b .loop .inv .3 ∙ all-stop (a .p) (a .gap .now) (a .ys .now) (a .e .now) (innerCount (a .e .now)) (b .loop .i) (omega arith) (sym (reached (c .before)) ∙ not-true _ (c .if1 .taken)))
 
 loop-less : tie.Need-loop-less Inv-loop μ-loop
@@ -64,7 +64,7 @@ loop-less c = search needs
 loop-again : tie.Need-loop-again Inv-loop μ-loop
 loop-again c =
     let b = c .before .before .before .before .before .before in
-    let a = b .before .before .args in
+    let a = b .before .before .before .before .args in
     let q = c .before .before .before .before .point-at in
     let g = c .before .before .before .at-point in
     let w : way (a .gap .now) (a .e .now) (b .loop .i) + g .result ≡ way (a .gap .now) (a .e .now) (b .loop .i + 1) = along (a .gap .now) (a .e .now) (b .loop .i) (q .result) (g .result) (q .ensures .0) (g .ensures .0) in
@@ -73,7 +73,7 @@ loop-again c =
 returns-2 : tie.Need-returns-2 Inv-loop μ-loop
 returns-2 c =
     let b = c .before in
-    let a = b .before .before .args in
+    let a = b .before .before .before .before .args in
     let z : innerCount (a .e .now) - b .loop .i ≡ 0 = omega arith in
     sym (rw z at (b .loop .inv .3))
 

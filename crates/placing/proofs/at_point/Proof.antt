@@ -11,8 +11,8 @@ sub-at c = search needs
 mul-broad : tie.Need-mul-broad
 mul-broad c = search needs
 
-element-copy-out-broad : tie.Need-element-copy-out-broad
-element-copy-out-broad c = search needs
+shared-slice-read-broad : tie.Need-shared-slice-read-broad
+shared-slice-read-broad c = search needs
 
 broad-requires : tie.Need-broad-requires
 broad-requires c κs = search needs
@@ -21,4 +21,4 @@ returns : tie.Need-returns
 returns c = (c .broad .ensures .0 ∙ rw sub-one, c .broad .ensures .1)
 
 pub at-point-spec : {M : Type 1} → statement M
-at-point-spec = tie.close (tie.spec sub-at mul-broad element-copy-out-broad broad-requires returns)
+at-point-spec = tie.close (tie.spec sub-at mul-broad shared-slice-read-broad broad-requires returns)

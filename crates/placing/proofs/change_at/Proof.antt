@@ -17,10 +17,10 @@ abbrev μ-scan : tie.MeasureT-scan
 μ-scan p gap ys e last a₀ passed₀ a passed = innerCount e - passed
 
 -- the test of a turn is the definition's
-reached : (c : tie.After-port-reaches Inv-scan μ-scan) → let b = c .before .before .before .before .before in let a = b .before .before .args in c .port-reaches .result ≡ portReaches (a .p) (a .gap .now) (a .ys .now) (a .e .now) (b .scan .passed + 1) (b .scan .passed + 1)
+reached : (c : tie.After-port-reaches Inv-scan μ-scan) → let b = c .before .before .before .before .before in let a = b .before .before .before .before .args in c .port-reaches .result ≡ portReaches (a .p) (a .gap .now) (a .ys .now) (a .e .now) (b .scan .passed + 1) (b .scan .passed + 1)
 reached c =
     let b = c .before .before .before .before .before in
-    let a = b .before .before .args in
+    let a = b .before .before .before .before .args in
     let q = c .before .before .before .point-at in
     let g = c .before .before .at-point in
     let y = c .before .at-point2 in
@@ -31,7 +31,7 @@ sub-last c = search needs
 
 scan-holds : tie.Need-scan-holds Inv-scan μ-scan
 scan-holds c =
-    let z : innerCount (c .before .args .e .now) - 0 ≡ innerCount (c .before .args .e .now) = omega arith in
+    let z : innerCount (c .before .before .before .args .e .now) - 0 ≡ innerCount (c .before .before .before .args .e .now) = omega arith in
     (omega arith, omega arith, omega arith, rw z)
 
 add-i : tie.Need-add-i Inv-scan μ-scan
@@ -58,7 +58,7 @@ scan-less c = search needs
 scan-again : tie.Need-scan-again Inv-scan μ-scan
 scan-again c =
     let b = c .before .before .before .before .before .before in
-    let a = b .before .before .args in
+    let a = b .before .before .before .before .args in
     let q = c .before .before .before .before .point-at in
     let g = c .before .before .before .at-point in
     let w : way (a .gap .now) (a .e .now) (b .scan .passed) + g .result ≡ way (a .gap .now) (a .e .now) (b .scan .passed + 1) = along (a .gap .now) (a .e .now) (b .scan .passed) (q .result) (g .result) (q .ensures .0) (g .ensures .0) in
@@ -67,7 +67,7 @@ scan-again c =
 returns : tie.Need-returns Inv-scan μ-scan
 returns c =
     let b = c .before in
-    let a = b .before .before .args in
+    let a = b .before .before .before .before .args in
     let z : innerCount (a .e .now) - b .scan .passed ≡ 0 = omega arith in
     let l : length (a .e .now) - 1 ≡ suc (b .scan .passed) = omega arith in
     l ∙ sym (rw z at (b .scan .inv .3))
@@ -75,7 +75,7 @@ returns c =
 returns-2 : tie.Need-returns-2 Inv-scan μ-scan
 returns-2 c =
     let b = c .before .before .before .before .before .before in
-    let a = b .before .before .args in
+    let a = b .before .before .before .before .args in
     sym (b .scan .inv .3 ∙ change-stop (a .p) (a .gap .now) (a .ys .now) (a .e .now) (innerCount (a .e .now)) (b .scan .passed) (omega arith) (sym (reached (c .before)) ∙ not-true _ (c .if2 .taken)))
 
 pub change-at-spec : {M : Type 1} → statement M

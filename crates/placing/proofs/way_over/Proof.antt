@@ -39,13 +39,13 @@ loop-less c = search needs
 loop-again : tie.Need-loop-again Inv-loop μ-loop
 loop-again c =
     let b = c .before .before .before in
-    let a = b .before .before .args in
+    let a = b .before .before .before .args in
     (omega arith, omega (arith, along (a .gap .now) (a .e .now) (b .loop .i) (c .before .point-at .result) (c .at-point .result) (c .before .point-at .ensures .0) (c .at-point .ensures .0)), omega arith)
 
 returns : tie.Need-returns Inv-loop μ-loop
 returns c =
     let b = c .before in
-    let n : b .loop .i ≡ length (b .before .before .args .e .now) - 1 = omega arith in
+    let n : b .loop .i ≡ length (b .before .before .before .args .e .now) - 1 = omega arith in
     rw (← n) (b .loop .inv .1)
 
 pub way-over-spec : {M : Type 1} → statement M

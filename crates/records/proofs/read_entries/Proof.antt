@@ -1,5 +1,5 @@
 -- `records::read_entries` meets its contract: each return is a case of reading the record.
-use mathlib.Core.Path.{_≡_, sym, _∙_}
+use mathlib.Core.Path.{_≡_, refl, sym, _∙_}
 use Rattle.rules.specs.Records.{pointEntries}
 use Rattle.rules.specs.declared.Answer.the-variants.{Accepted}
 use Rattle.rules.specs.Refusals.{answer}
@@ -9,7 +9,7 @@ use Rattle.records.proofs.read_entries.Statement.{statement}
 use Rattle.records.proofs.read_entries.Tie as tie
 
 -- the mark is there
-marked : (d : tie.After-enum-told) → let a = d .before .before .before .before .before .args in answer (markAt 0x5054 (a .f .now) (a .at)) ≡ Accepted
+marked : (d : tie.After-enum-told) → let a = d .before .before .before .before .args in answer (markAt 0x5054 (a .f .now) (a .at)) ≡ Accepted
 marked d = sym (d .before .before .mark-at .ensures) ∙ d .enum-told .given .1
 
 mark-at-requires : tie.Need-mark-at-requires
@@ -21,7 +21,7 @@ enum-known-marked c = search needs
 returns : tie.Need-returns
 returns c =
     let d = c .before .before .before in
-    let a = d .before .before .before .args in
+    let a = d .before .before .args in
     unmarked pointEntries (a .f .now) (a .at) _ _ (sym (d .mark-at .ensures) ∙ c .before .marked .given .1)
 
 enum-told : tie.Need-enum-told
@@ -32,7 +32,7 @@ add-from c = search needs
 
 returns-2 : tie.Need-returns-2
 returns-2 c =
-    let a = c .before .before .before .before .before .before .args in
+    let a = c .before .before .before .before .before .args in
     no-count (a .f .now) (a .at) (marked (c .before)) (c .if1 .taken)
 
 add-word-at : tie.Need-add-word-at
@@ -54,26 +54,19 @@ returns-3 : tie.Need-returns-3
 returns-3 c =
     let w = c .before .before in
     let d = w .before .before in
-    let a = d .before .before .before .before .before .args in
+    let a = d .before .before .before .before .args in
     entries-short (a .f .now) (a .at) (marked d) _ (w .before .if1 .left) (c .before .broad .ensures ∙ w .word-at .ensures) (c .if2 .taken)
-
-copy-numbers-requires : tie.Need-copy-numbers-requires
-copy-numbers-requires c κs = search needs
-
-same-length : tie.Need-same-length
-same-length c = search needs
 
 returns-4 : tie.Need-returns-4
 returns-4 c =
-    let k = c .before .before in
-    let b = k .before .before .before in
+    let b = c .before in
     let w = b .before in
     let d = w .before .before in
-    let a = d .before .before .before .before .before .args in
+    let a = d .before .before .before .before .args in
     record {
-      some = search needs;
-      room = k .before .before .if2 .left;
-      is = entries-there (a .f .now) (a .at) (marked d) _ _ (k .before .before .if2 .left) (b .broad .ensures ∙ w .word-at .ensures) (k .copy-numbers .ensures);
+      room = c .if2 .left;
+      behind = refl;
+      is = entries-there (a .f .now) (a .at) (marked d) _ (c .if2 .left) (b .broad .ensures ∙ w .word-at .ensures);
     }
 
 pub read-entries-spec : {M : Type 1} → statement M
@@ -92,6 +85,4 @@ read-entries-spec =
     mul-next
     add-next
     returns-3
-    copy-numbers-requires
-    same-length
     returns-4)

@@ -12,27 +12,27 @@ use Rattle.settling.proofs.hang_one.Tie as tie
 abbrev top : tie.Else1 → ℕ
 top c = c .before .broad .result - 1
 
-owned : (c : tie.Else1) → getD (c .before .before .before .args .owner .now) (c .before .before .before .args .p) 0 ≡ suc (top c)
+owned : (c : tie.Else1) → getD (c .before .before .before .before .before .args .owner .now) (c .before .before .before .before .before .args .p) 0 ≡ suc (top c)
 owned c = omega (arith, c .before .broad .ensures, c .if1 .left)
 
 -- what the way to an owned point is known to be
 bounds : (c : tie.Else1) →
-    let a = c .before .before .before .args in
+    let a = c .before .before .before .before .before .args in
     (top c < 1024) × (32768 ≤ getD (a .x .now) (top c) 0 + getD (a .gap .now) (a .p) 0) × (getD (a .x .now) (top c) 0 + getD (a .gap .now) (a .p) 0 < 98304)
-bounds c = let z = c .before .before .before in hangs-owned (z .args .gap .now) (z .args .p) (z .args .x .now) (owned c) (z .pre .4)
+bounds c = let z = c .before .before .before in hangs-owned (z .before .before .args .gap .now) (z .before .before .args .p) (z .before .before .args .x .now) (owned c) (z .before .before .pre .4)
 
 mul-broad : tie.Need-mul-broad
 mul-broad c = search needs
 
-element-copy-out-broad : tie.Need-element-copy-out-broad
-element-copy-out-broad c = search needs
+shared-slice-read-broad : tie.Need-shared-slice-read-broad
+shared-slice-read-broad c = search needs
 
 broad-requires : tie.Need-broad-requires
 broad-requires c κs = search needs
 
 returns : tie.Need-returns
 returns c =
-    let a = c .before .before .before .args in
+    let a = c .before .before .before .before .before .args in
     sym (hang-free (a .gap .now) (a .p) (a .x .now) (sym (c .before .broad .ensures) ∙ c .if1 .taken))
 
 sub-broad : tie.Need-sub-broad
@@ -41,8 +41,8 @@ sub-broad c = search needs
 mul-broad-2 : tie.Need-mul-broad-2
 mul-broad-2 c = omega (arith, bounds c)
 
-element-copy-out-broad-2 : tie.Need-element-copy-out-broad-2
-element-copy-out-broad-2 c = omega (arith, bounds c)
+element-copy-out-broad : tie.Need-element-copy-out-broad
+element-copy-out-broad c = omega (arith, bounds c)
 
 broad-requires-2 : tie.Need-broad-requires-2
 broad-requires-2 c κs = search needs
@@ -50,8 +50,8 @@ broad-requires-2 c κs = search needs
 mul-broad-3 : tie.Need-mul-broad-3
 mul-broad-3 c = search needs
 
-element-copy-out-broad-3 : tie.Need-element-copy-out-broad-3
-element-copy-out-broad-3 c = search needs
+shared-slice-read-broad-2 : tie.Need-shared-slice-read-broad-2
+shared-slice-read-broad-2 c = search needs
 
 broad-requires-3 : tie.Need-broad-requires-3
 broad-requires-3 c κs = search needs
@@ -59,7 +59,7 @@ broad-requires-3 c κs = search needs
 -- the sum, as it was read
 summed : (c : tie.After-broad3) →
     let d = c .before .before .before .before in
-    let a = d .before .before .before .args in
+    let a = d .before .before .before .before .before .args in
     c .before .before .broad2 .result + c .broad3 .result ≡ getD (a .x .now) (top d) 0 + getD (a .gap .now) (a .p) 0
 summed c = omega (arith, c .before .before .broad2 .ensures, c .broad3 .ensures)
 
@@ -81,7 +81,7 @@ element-write-x c = search needs
 returns-2 : tie.Need-returns-2
 returns-2 c =
     let d = c .before .before .before .before .before in
-    let a = d .before .before .before .args in
+    let a = d .before .before .before .before .before .args in
     ap (λ (v : ℕ). set (a .x .now) (a .p) v) (c .narrow .ensures ∙ ap (λ (v : ℕ). v - 32768) (summed (c .before))) ∙
     sym (hang-owned (a .gap .now) (a .p) (a .x .now) (owned d))
 
@@ -90,15 +90,15 @@ hang-one-spec =
     tie.close
     (tie.spec
     mul-broad
-    element-copy-out-broad
+    shared-slice-read-broad
     broad-requires
     returns
     sub-broad
     mul-broad-2
-    element-copy-out-broad-2
+    element-copy-out-broad
     broad-requires-2
     mul-broad-3
-    element-copy-out-broad-3
+    shared-slice-read-broad-2
     broad-requires-3
     add-sum
     sub-narrow

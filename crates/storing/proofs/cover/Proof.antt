@@ -1,34 +1,39 @@
 -- `storing::cover` meets its contract: after i turns the entries 1 to i are covered.
-use Prim.Native.Nat.{_+_, _-_, _≤_, _<_}
-use mathlib.Core.Path.{_≡_, _∙_}
-use lib.ListN.{length}
+use Prim.Native.Nat.{_+_, _-_, _≤_, _<_, zero-le}
+use mathlib.Core.Path.{_≡_, refl, ap, _∙_}
+use lib.ListN.{length, length-set, getD}
 use native.Mathlib.Omega.{arith}
-use borrow.Author.Needs.{needs}
 use Rattle.links.specs.Placing.{way}
 use Rattle.links.specs.Storing.{coveredGaps, coveredOwners}
-use Rattle.storing.proofs.Covering.{Turn, turn-low, turn-index, turn-way, turn-near, turn-gap, turn-owner}
+use Rattle.tables.specs.Tables.{arraysIn, Keeps, arrays-read, gapR}
+use Rattle.storing.specs.Stages.{covered}
+use Rattle.storing.proofs.Covering.{Turn, turn-low, turn-index, turn-way, turn-near, cover-more}
+use borrow.Author.Needs.{needs}
 use Rattle.storing.proofs.cover.Statement.{statement}
 use Rattle.storing.proofs.cover.Tie as tie
 
 abbrev Inv-loop : tie.InvT-loop
-Inv-loop e gap₀ owner₀ p v last far₀ i₀ gap owner far i = (i ≤ last) × (far ≡ way gap₀ e i) × (gap ≡ coveredGaps gap₀ e p i) × (owner ≡ coveredOwners owner₀ e v i)
+Inv-loop e table₀ p v last far₀ i₀ table far i = (i ≤ last) × (length table ≡ length table₀) × (far ≡ way (arraysIn table₀ .gap) e i) × Keeps table (covered (arraysIn table₀) e p v i)
 
 abbrev μ-loop : tie.MeasureT-loop
-μ-loop e gap₀ owner₀ p v last far₀ i₀ gap owner far i = last - i
+μ-loop e table₀ p v last far₀ i₀ table far i = last - i
 
 -- a turn, once the point is read
-turn : (d : tie.After-point-of Inv-loop μ-loop) → let b = d .before .before .before in let a = b .before .before .args in Turn (a .gap .now) (a .owner .now) (a .e .now) (a .p) (a .v) (b .loop .i) (b .loop .far) (b .loop .gap) (b .loop .owner) (d .point-of .result)
+turn : (d : tie.After-point-of Inv-loop μ-loop) → let b = d .before .before .before in let a = b .before .before .before .args in let g = arraysIn (a .table .now) .gap in Turn g (a .e .now) (a .p) (b .loop .i) (b .loop .far) (coveredGaps g (a .e .now) (a .p) (b .loop .i)) (d .point-of .result)
 turn d =
     let b = d .before .before .before in
-    let l = b .loop .inv in
-    record { call = b .before .before .pre; inner = omega arith; passed = l .1; gaps = l .2; owners = l .3; point = d .point-of .ensures }
+    record { call = b .before .before .before .pre .0; inner = omega arith; passed = b .loop .inv .2; gaps = refl; point = d .point-of .ensures }
 
 -- the way to the point
-reached : (c : tie.After-broad Inv-loop μ-loop) → let b = c .before .before .before .before .before in let a = b .before .before .args in b .loop .far + c .broad .result ≡ way (a .gap .now) (a .e .now) (b .loop .i + 1)
-reached c = rw (c .broad .ensures) (turn-way (turn (c .before .before)))
+reached : (c : tie.After-broad Inv-loop μ-loop) → let b = c .before .before .before .before .before in let a = b .before .before .before .args in b .loop .far + c .broad .result ≡ way (arraysIn (a .table .now) .gap) (a .e .now) (b .loop .i + 1)
+unfolding arraysIn
+reached c =
+    let d = c .before .before in
+    let b = d .before .before .before in
+    rw (c .broad .ensures, arrays-read gapR (b .loop .table) (d .point-of .result - 1) 0 (omega (arith, turn-index (turn d))), ap (λ a. a .gap) (b .loop .inv .3 .is)) (turn-way (turn d))
 
 -- which stays small
-near : (c : tie.After-broad Inv-loop μ-loop) → let b = c .before .before .before .before .before in b .loop .far + c .broad .result + b .before .before .args .p .s1 < 32768
+near : (c : tie.After-broad Inv-loop μ-loop) → let b = c .before .before .before .before .before in b .loop .far + c .broad .result + b .before .before .before .args .p .s1 < 32768
 near c = omega (arith, reached c, turn-near (turn (c .before .before)))
 
 sub-last : tie.Need-sub-last Inv-loop μ-loop
@@ -36,7 +41,7 @@ sub-last c = search needs
 
 loop-holds : tie.Need-loop-holds Inv-loop μ-loop
 unfolding coveredGaps coveredOwners
-loop-holds c = search needs
+loop-holds c = (zero-le, refl, refl, record { is = refl })
 
 add-i : tie.Need-add-i Inv-loop μ-loop
 add-i c = search needs
@@ -53,11 +58,14 @@ point-of-requires c κs = search needs
 sub-q : tie.Need-sub-q Inv-loop μ-loop
 sub-q c = omega (arith, turn-low (turn c))
 
-mul-broad : tie.Need-mul-broad Inv-loop μ-loop
-mul-broad c = search needs
+add-broad : tie.Need-add-broad Inv-loop μ-loop
+add-broad c = omega (arith, turn-index (turn c))
 
-element-copy-out-broad : tie.Need-element-copy-out-broad Inv-loop μ-loop
-element-copy-out-broad c = omega (arith, turn-index (turn c))
+mul-broad : tie.Need-mul-broad Inv-loop μ-loop
+mul-broad c = omega (arith, turn-index (turn c))
+
+slice-read-broad : tie.Need-slice-read-broad Inv-loop μ-loop
+slice-read-broad c = omega (arith, turn-index (turn (c .before)))
 
 broad-requires : tie.Need-broad-requires Inv-loop μ-loop
 broad-requires c κs = search needs
@@ -72,22 +80,28 @@ add-narrow-2 : tie.Need-add-narrow-2 Inv-loop μ-loop
 add-narrow-2 c = omega (arith, near (c .before))
 
 sub-narrow : tie.Need-sub-narrow Inv-loop μ-loop
-sub-narrow c = omega (arith, near (c .before .before), c .before .before .before .before .before .before .before .before .before .pre .dx)
+sub-narrow c = omega (arith, near (c .before .before), c .before .before .before .before .before .before .before .before .before .before .pre .0 .dx)
 
 narrow-requires : tie.Need-narrow-requires Inv-loop μ-loop
 narrow-requires c κs = omega (arith, near (c .before .before))
 
-mul-gap : tie.Need-mul-gap Inv-loop μ-loop
-mul-gap c = search needs
+add-table : tie.Need-add-table Inv-loop μ-loop
+add-table c = omega (arith, turn-index (turn (c .before .before .before .before .before)))
 
-element-write-gap : tie.Need-element-write-gap Inv-loop μ-loop
-element-write-gap c = omega (arith, turn-index (turn (c .before .before .before .before .before)))
+mul-table : tie.Need-mul-table Inv-loop μ-loop
+mul-table c = omega (arith, turn-index (turn (c .before .before .before .before .before)))
 
-mul-owner : tie.Need-mul-owner Inv-loop μ-loop
-mul-owner c = search needs
+slice-write-table : tie.Need-slice-write-table Inv-loop μ-loop
+slice-write-table c = omega (arith, turn-index (turn (c .before .before .before .before .before)))
 
-element-write-owner : tie.Need-element-write-owner Inv-loop μ-loop
-element-write-owner c = omega (arith, turn-index (turn (c .before .before .before .before .before)))
+add-table-2 : tie.Need-add-table-2 Inv-loop μ-loop
+add-table-2 c = omega (arith, turn-index (turn (c .before .before .before .before .before)))
+
+mul-table-2 : tie.Need-mul-table-2 Inv-loop μ-loop
+mul-table-2 c = omega (arith, turn-index (turn (c .before .before .before .before .before)))
+
+slice-write-table-2 : tie.Need-slice-write-table-2 Inv-loop μ-loop
+slice-write-table-2 c = simp length-set (omega (arith, turn-index (turn (c .before .before .before .before .before))))
 
 loop-less : tie.Need-loop-less Inv-loop μ-loop
 loop-less c = search needs
@@ -95,14 +109,18 @@ loop-less c = search needs
 loop-again : tie.Need-loop-again Inv-loop μ-loop
 loop-again c =
     let r = c .before .before .before in
-    let t = turn (r .before .before) in
-    (omega arith, reached r, turn-gap t (c .narrow .ensures ∙ rw (reached r)), turn-owner t)
+    let b = r .before .before .before .before .before in
+    let z = b .before .before .before in
+    (omega arith, simp length-set (b .loop .inv .1), reached r, cover-more (arraysIn (z .args .table .now)) (z .args .v) (turn (r .before .before)) (b .loop .inv .3) (c .narrow .ensures ∙ rw (reached r)))
+
+same-length : tie.Need-same-length Inv-loop μ-loop
+same-length c = c .before .loop .inv .1
 
 returns : tie.Need-returns Inv-loop μ-loop
 returns c =
     let b = c .before in
-    let n : b .loop .i ≡ length (b .before .before .args .e .now) - 2 = omega arith in
-    (rw (b .loop .inv .2, n), rw (b .loop .inv .3, n))
+    let n : b .loop .i ≡ length (b .before .before .before .args .e .now) - 2 = omega arith in
+    b .loop .inv .3 .is ∙ rw n
 
 pub cover-spec : {M : Type 1} → statement M
 cover-spec =
@@ -117,18 +135,22 @@ cover-spec =
     shared-slice-read-point-of
     point-of-requires
     sub-q
+    add-broad
     mul-broad
-    element-copy-out-broad
+    slice-read-broad
     broad-requires
     add-far
     add-narrow
     add-narrow-2
     sub-narrow
     narrow-requires
-    mul-gap
-    element-write-gap
-    mul-owner
-    element-write-owner
+    add-table
+    mul-table
+    slice-write-table
+    add-table-2
+    mul-table-2
+    slice-write-table-2
     loop-less
     loop-again
+    same-length
     returns)

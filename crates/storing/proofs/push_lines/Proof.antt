@@ -1,22 +1,22 @@
 -- `storing::push_lines` meets its contract: after i turns the lines of the entries 0 to i - 1 are there.
-use Prim.Native.Nat.{suc, _-_, _≤_}
+use Prim.Native.Nat.{suc, _+_, _-_, _≤_, zero-le}
 use mathlib.Core.Path.{_≡_, refl, _∙_}
-use lib.ListN.{length, getD}
+use lib.ListN.{length, length-set}
 use native.Mathlib.Numerals.{add-one}
 use native.Mathlib.Omega.{arith}
-use borrow.Author.Needs.{needs}
 use Rattle.links.specs.Storing.{codeOf, filled}
-use Rattle.storing.proofs.Filling.{filled-more}
+use Rattle.tables.specs.Tables.{arraysIn, Keeps}
+use Rattle.storing.specs.Stages.{lined}
+use Rattle.storing.proofs.Filling.{line-more}
+use borrow.Author.Needs.{needs}
 use Rattle.storing.proofs.push_lines.Statement.{statement}
 use Rattle.storing.proofs.push_lines.Tie as tie
 
 abbrev Inv-loop : tie.InvT-loop
-Inv-loop e words₀ later₀ bends₀ rights lefts from at new last i₀ words later bends i =
-    (i ≤ length e) × (words ≡ filled (λ j. getD e j 0) words₀ at i) × (later ≡ filled (λ j. new) later₀ at i)
-    × (bends ≡ filled (codeOf rights lefts last from) bends₀ at i)
+Inv-loop e table₀ rights lefts from at new last i₀ table i = (i ≤ length e) × (length table ≡ length table₀) × Keeps table (lined (arraysIn table₀) e at new (codeOf rights lefts last from) i)
 
 abbrev μ-loop : tie.MeasureT-loop
-μ-loop e words₀ later₀ bends₀ rights lefts from at new last i₀ words later bends i = length e - i
+μ-loop e table₀ rights lefts from at new last i₀ table i = length e - i
 
 add-narrow : tie.Need-add-narrow Inv-loop μ-loop
 add-narrow c = search needs
@@ -29,37 +29,46 @@ sub-last c = search needs
 
 loop-holds : tie.Need-loop-holds Inv-loop μ-loop
 unfolding filled
-loop-holds c = search needs
+loop-holds c = (zero-le, refl, record { is = refl })
 
 add-line : tie.Need-add-line Inv-loop μ-loop
 add-line c = search needs
 
-mul-words : tie.Need-mul-words Inv-loop μ-loop
-mul-words c = search needs
+mul-table : tie.Need-mul-table Inv-loop μ-loop
+mul-table c = search needs
 
-shared-slice-read-words : tie.Need-shared-slice-read-words Inv-loop μ-loop
-shared-slice-read-words c = search needs
+shared-slice-read-table : tie.Need-shared-slice-read-table Inv-loop μ-loop
+shared-slice-read-table c = search needs
 
-mul-words-2 : tie.Need-mul-words-2 Inv-loop μ-loop
-mul-words-2 c = search needs
+add-table : tie.Need-add-table Inv-loop μ-loop
+add-table c = search needs
 
-element-write-words : tie.Need-element-write-words Inv-loop μ-loop
-element-write-words c = search needs
+mul-table-2 : tie.Need-mul-table-2 Inv-loop μ-loop
+mul-table-2 c = search needs
 
-mul-later : tie.Need-mul-later Inv-loop μ-loop
-mul-later c = search needs
+slice-write-table : tie.Need-slice-write-table Inv-loop μ-loop
+slice-write-table c = search needs
 
-element-write-later : tie.Need-element-write-later Inv-loop μ-loop
-element-write-later c = search needs
+add-table-2 : tie.Need-add-table-2 Inv-loop μ-loop
+add-table-2 c = search needs
+
+mul-table-3 : tie.Need-mul-table-3 Inv-loop μ-loop
+mul-table-3 c = search needs
+
+slice-write-table-2 : tie.Need-slice-write-table-2 Inv-loop μ-loop
+slice-write-table-2 c = simp length-set (omega arith)
 
 code-of-requires : tie.Need-code-of-requires Inv-loop μ-loop
 code-of-requires c κs = search needs
 
-mul-bends : tie.Need-mul-bends Inv-loop μ-loop
-mul-bends c = search needs
+add-table-3 : tie.Need-add-table-3 Inv-loop μ-loop
+add-table-3 c = search needs
 
-element-write-bends : tie.Need-element-write-bends Inv-loop μ-loop
-element-write-bends c = search needs
+mul-table-4 : tie.Need-mul-table-4 Inv-loop μ-loop
+mul-table-4 c = search needs
+
+slice-write-table-3 : tie.Need-slice-write-table-3 Inv-loop μ-loop
+slice-write-table-3 c = simp length-set (omega arith)
 
 add-i : tie.Need-add-i Inv-loop μ-loop
 add-i c = search needs
@@ -69,15 +78,24 @@ loop-less c = search needs
 
 loop-again : tie.Need-loop-again Inv-loop μ-loop
 loop-again c =
-    let l = c .before .before .before .loop in
-    (omega arith, filled-more _ _ _ _ (l .i) _ (l .inv .1) refl, filled-more _ _ _ _ (l .i) _ (l .inv .2) refl, filled-more _ _ _ _ (l .i) _ (l .inv .3) (c .code-of .ensures))
+    let b = c .before .before .before in
+    let l = b .loop in
+    let z = b .before .before .before .before .before in (
+      omega arith,
+      simp length-set (l .inv .1),
+      line-more (l .table) (arraysIn (z .args .table .now)) (z .args .e .now) (z .args .c .lines) (b .before .narrow .result) (l .i) _ _ (l .inv .2) (omega (arith, z .pre .0 .lines)) (c .code-of .ensures),
+    )
+
+same-length : tie.Need-same-length Inv-loop μ-loop
+same-length c = c .before .loop .inv .1
 
 returns : tie.Need-returns Inv-loop μ-loop
 returns c =
     let b = c .before in
-    let n : b .loop .i ≡ length (b .before .before .before .before .args .e .now) = omega arith in
-    let v : b .before .narrow .result ≡ suc (b .before .before .before .before .args .c .k) = b .before .narrow .ensures ∙ add-one _ in
-    (rw (b .loop .inv .1, n), (rw (b .loop .inv .2, n, v), rw (b .loop .inv .3, n)))
+    let z = b .before .before .before .before .before in
+    let n : b .loop .i ≡ length (z .args .e .now) = omega arith in
+    let v : b .before .narrow .result ≡ suc (z .args .c .k) = b .before .narrow .ensures ∙ add-one _ in
+    b .loop .inv .2 .is ∙ rw (n, v)
 
 pub push-lines-spec : {M : Type 1} → statement M
 push-lines-spec =
@@ -90,16 +108,20 @@ push-lines-spec =
     sub-last
     loop-holds
     add-line
-    mul-words
-    shared-slice-read-words
-    mul-words-2
-    element-write-words
-    mul-later
-    element-write-later
+    mul-table
+    shared-slice-read-table
+    add-table
+    mul-table-2
+    slice-write-table
+    add-table-2
+    mul-table-3
+    slice-write-table-2
     code-of-requires
-    mul-bends
-    element-write-bends
+    add-table-3
+    mul-table-4
+    slice-write-table-3
     add-i
     loop-less
     loop-again
+    same-length
     returns)

@@ -7,17 +7,25 @@ use Rattle.storing.proofs.put.Tie as tie
 narrow-requires : tie.Need-narrow-requires
 narrow-requires c κs = search needs
 
-sub-l : tie.Need-sub-l
-sub-l c = search needs
+sub-table : tie.Need-sub-table
+sub-table c = search needs
 
-mul-l : tie.Need-mul-l
-mul-l c = search needs
+add-table : tie.Need-add-table
+add-table c = search needs
 
-element-write-l : tie.Need-element-write-l
-element-write-l c = search needs
+mul-table : tie.Need-mul-table
+mul-table c = search needs
+
+slice-write-table : tie.Need-slice-write-table
+slice-write-table c = search needs
+
+same-length : tie.Need-same-length
+same-length c = search needs
 
 returns : tie.Need-returns
 returns c = rw (c .narrow .ensures, sub-one)
 
 pub put-spec : {M : Type 1} → statement M
-put-spec = tie.close (tie.spec narrow-requires sub-l mul-l element-write-l returns)
+put-spec =
+    tie.close
+    (tie.spec narrow-requires sub-table add-table mul-table slice-write-table same-length returns)

@@ -1,0 +1,158 @@
+-- The one table that keeps a drawing: the ten arrays, one behind the other, as regions 0 to 9.
+use Prim.Native.Nat.{ℕ, pred, _+_, _-_, _*_, _<_, _≤_, min}
+use mathlib.Core.Path.{_≡_, refl, sym, ap, _∙_, fun-ext}
+use mathlib.Core.List.{List}
+use native.Mathlib.Omega.{arith}
+use mathlib.Core.Bool.{Bool, true, false}
+use borrow.Author.Tests.{eq-eqb, ne-eqb, ltb-true, ltb-false}
+use lib.ListN.{length, length-take, length-drop, getD, set, drop}
+use lib.Dec.{eqb, ltb}
+use Rattle.rules.specs.Basics.{if_then_else_}
+use Rattle.links.specs.Arrays.{Arrays, arraysOf, Sized, atPoint}
+use Rattle.links.specs.Storing.{putAt}
+use Rattle.tables.specs.Parts.{part, patched, length-part, patched-before, patched-there, patched-after, part-read, set-before, set-there, set-after}
+
+-- regions 0 to 6 have a word for each of 1,024 points, the others for each of 3,072 lines
+abbrev pub size : ℕ → ℕ
+size r = 1024 + 2048 * min 1 (r - 6)
+
+abbrev pub from : ℕ → ℕ
+from r = 1024 * r + 2048 * (r - 7)
+
+abbrev pub region : List ℕ → ℕ → List ℕ
+region t r = part (from r) (size r) t
+
+-- their numbers, in the arrays' order
+abbrev pub nextR : ℕ
+nextR = 0
+
+abbrev pub gapR : ℕ
+gapR = 1
+
+abbrev pub ownerR : ℕ
+ownerR = 2
+
+abbrev pub ysR : ℕ
+ysR = 3
+
+abbrev pub dlsR : ℕ
+dlsR = 4
+
+abbrev pub drsR : ℕ
+drsR = 5
+
+abbrev pub hsR : ℕ
+hsR = 6
+
+abbrev pub wordsR : ℕ
+wordsR = 7
+
+abbrev pub laterR : ℕ
+laterR = 8
+
+abbrev pub bendsR : ℕ
+bendsR = 9
+
+-- the table has room for all of them
+abbrev pub Full : List ℕ → Type 0
+Full t = 16384 ≤ length t
+
+unfoldable pub arraysIn : List ℕ → Arrays
+arraysIn t =
+    arraysOf (region t 0) (region t 1) (region t 2) (region t 3) (region t 4) (region t 5) (region t 6)
+    (region t 7) (region t 8) (region t 9)
+
+-- the arrays with the list of region r changed by g
+abbrev pub changed : ℕ → (List ℕ → List ℕ) → Arrays → Arrays
+changed r g a =
+    let by : ℕ → List ℕ → List ℕ = λ q l. if eqb q r then g l else l in
+    arraysOf (by 0 (a .next)) (by 1 (a .gap)) (by 2 (a .owner)) (by 3 (a .ys)) (by 4 (a .dls)) (by 5 (a .drs)) (by 6 (a .hs))
+    (by 7 (a .words)) (by 8 (a .later)) (by 9 (a .bends))
+
+-- ---- the laws
+
+-- q is less than r, or r, or more
+order : {A : Type 0} (q r : ℕ) → (q < r → A) → (q ≡ r → A) → (r < q → A) → A
+order {A} q r less same more = go (ltb q r) (ltb r q) refl refl
+  where
+    go : (b c : Bool) → ltb q r ≡ b → ltb r q ≡ c → A
+    go true c p s = less (ltb-true q r p)
+    go false true p s = more (ltb-true r q s)
+    go false false p s = same (omega (arith, ltb-false q r p, ltb-false r q s))
+
+-- a table t′ whose region r is t's changed by g, and which is t before and behind it
+module _ (r : ℕ) (t t′ : List ℕ) (g : List ℕ → List ℕ)
+    (before : (a n : ℕ) → a + n ≤ from r → part a n t′ ≡ part a n t)
+    (there : region t′ r ≡ g (region t r))
+    (after : (a n : ℕ) → from r + size r ≤ a → part a n t′ ≡ part a n t) where
+  only : (q : ℕ) → region t′ q ≡ (if eqb q r then g (region t q) else region t q)
+  only q =
+      order q r
+      (λ h. rw (ne-eqb q r (λ e. omega arith)) (before (from q) (size q) (omega arith)))
+      (λ h. rw (eq-eqb q r h) (rw h there))
+      (λ h. rw (ne-eqb q r (λ e. omega arith)) (after (from q) (size q) (omega arith)))
+
+  arrays-only : arraysIn t′ ≡ changed r g (arraysIn t)
+  unfolding arraysIn
+  arrays-only =
+      ap (λ (f : ℕ → List ℕ). arraysOf (f 0) (f 1) (f 2) (f 3) (f 4) (f 5) (f 6) (f 7) (f 8) (f 9)) (fun-ext only)
+
+-- A word is stored in a region.
+pub arrays-set : (r : ℕ) (t : List ℕ) (i v : ℕ) → i < size r → arraysIn (set t (from r + i) v) ≡ changed r (λ l. set l i v) (arraysIn t)
+arrays-set r t i v h =
+    arrays-only r t (set t (from r + i) v) (λ l. set l i v)
+    (λ a n b. set-before a n t (from r + i) v (omega arith)) (set-there (from r) (size r) t i v h) (λ a n b. set-after a n t (from r + i) v (omega arith))
+
+-- the table t keeps the arrays a
+pub record Keeps (t : List ℕ) (a : Arrays) : Type 0 where
+  pub is : arraysIn t ≡ a
+
+-- The same for a table whose arrays are known, by indexes and by points.
+pub arrays-store : (r : ℕ) {t t′ : List ℕ} {a : Arrays} (i v : ℕ) → Keeps t a → t′ ≡ set t (from r + i) v → i < size r → Keeps t′ (changed r (λ l. set l i v) a)
+arrays-store r {t} i v k s h = record { is = ap arraysIn s ∙ arrays-set r t i v h ∙ ap (changed r (λ l. set l i v)) (k .is) }
+
+pub arrays-put : (r : ℕ) {t t′ : List ℕ} {a : Arrays} (p v : ℕ) → Keeps t a → t′ ≡ set t (from r + pred p) v → (0 < p) × (p ≤ size r) → Keeps t′ (changed r (λ l. putAt l p v) a)
+arrays-put r p v k s h = arrays-store r (pred p) v k s (omega (arith, h))
+
+-- A lent region comes back changed by g, and the others are what they were.
+pub arrays-lent : (r : ℕ) (g : List ℕ → List ℕ) {t l : List ℕ} {a : Arrays} → Keeps t a → from r + size r ≤ length t → length l ≡ length (region t r) → l ≡ g (region t r) → Keeps (patched (from r) (size r) t l) (changed r g a)
+arrays-lent r g {t} {l} k h s e =
+    let n : length l ≡ size r = s ∙ length-part (from r) (size r) t h in
+    record {
+      is =
+          arrays-only r t (patched (from r) (size r) t l) g
+          (patched-before (from r) (size r) t l h) (patched-there (from r) (size r) t l h n ∙ e) (patched-after (from r) (size r) t l h n)
+          ∙ ap (changed r g) (k .is);
+    }
+
+-- A word is read from a region.
+pub arrays-read : (r : ℕ) (t : List ℕ) (i d : ℕ) → i < size r → getD t (from r + i) d ≡ getD (region t r) i d
+arrays-read r t i d h = part-read (from r) (size r) t i d h
+
+pub point-read : (r : ℕ) (t : List ℕ) (i p : ℕ) → i ≡ pred p → i < 1024 → getD t (from r + i) 0 ≡ atPoint (region t r) p
+point-read r t i p e h = arrays-read r t i 0 (omega arith) ∙ ap (λ j. getD (region t r) j 0) e
+
+-- The arrays have room, and only a table of this length has such arrays.
+pub sized : (t : List ℕ) → Full t → Sized (arraysIn t)
+unfolding arraysIn
+sized t h =
+    let long : (r : ℕ) → from r + size r ≤ 16384 → length (region t r) ≡ size r = λ r k. length-part (from r) (size r) t (omega arith) in
+    record {
+      next = long 0 (omega arith);
+      gap = long 1 (omega arith);
+      owner = long 2 (omega arith);
+      ys = long 3 (omega arith);
+      dls = long 4 (omega arith);
+      drs = long 5 (omega arith);
+      hs = long 6 (omega arith);
+      words = long 7 (omega arith);
+      later = long 8 (omega arith);
+      bends = long 9 (omega arith);
+    }
+
+pub region-long : (r : ℕ) (t : List ℕ) → from r + size r ≤ length t → length (region t r) ≡ size r
+region-long r t h = length-part (from r) (size r) t h
+
+pub table-long : (t : List ℕ) → Sized (arraysIn t) → Full t
+unfolding arraysIn
+table-long t s = omega (arith, s .bends, length-take 3072 (drop 13312 t), length-drop 13312 t)
