@@ -26,7 +26,7 @@ fn index_at(e: &[u16], i: usize) -> usize
     requires { ⌜ (i < length (now e)) × Within 1024 (now e) ⌝ }
     ensures { λ r. ⌜ (r ≡ pred (entryPoint (now (e .entry)) i)) × (r < 1024) ⌝ }
 {
-    entries::point_of(e[i]) as usize - 1
+    entries::point_of(e[i]) - 1
 }
 
 // Where the new point goes, over the run of the entries.

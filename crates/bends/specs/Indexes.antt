@@ -7,7 +7,7 @@ use Rattle.rules.specs.declared.Bend.the-variants.{Left, Right, Middle, Straigh
 use Rattle.rules.specs.Points.{Drawing, W, lineAt}
 use Rattle.rules.specs.Ports.{bendOf}
 use Rattle.promise.specs.Bounds.{Standing, width-most, bend-most}
-use Rattle.bends.specs.Codes.{Indexed}
+use Rattle.links.specs.Codes.{Indexed}
 
 -- a right or left port lies in the frame
 pub indexed : (d : Drawing) → Standing d → (e : ℕ) → e < length (d .lines) → Indexed (lineAt d e .bend)

@@ -1,3 +1,2 @@
-pub mod Codes
 pub mod Indexes
 pub mod Lines

@@ -9,7 +9,7 @@ use Rattle.rules.specs.Points.{Drawing, lineAt}
 use Rattle.promise.specs.Bounds.{Standing}
 use Rattle.links.specs.declared.Counts.{Counts}
 use Rattle.links.specs.Arrays.{Arrays, Stores}
-use Rattle.bends.specs.Codes.{bendFrom, bend-back}
+use Rattle.links.specs.Codes.{bendFrom, bend-back}
 use Rattle.bends.specs.Indexes.{indexed}
 
 -- line e, read from the arrays

@@ -1,5 +1,5 @@
-// A line, read back from the table, and its bend from the number that stands for it there.
-use rules::Bend;
+// A line, read back from the table.
+use links::bend_from;
 use rules::Line;
 use tables::BENDS;
 use tables::LATER;
@@ -7,24 +7,7 @@ use tables::WORDS;
 ghost use mathlib.Core.Path.{_≡_};
 ghost use Prim.Native.Nat.{_<_};
 ghost use Rattle.tables.specs.Tables.{Full, arraysIn};
-ghost use Rattle.bends.specs.Codes.{bendFrom};
 ghost use Rattle.bends.specs.Lines.{lineIn};
-
-// The bend that a stored number means: a middle, left or right port with its index, or none.
-pub fn bend_from(code: u16) -> Bend
-    ensures { λ r. ⌜ r ≡ bendFrom code ⌝ }
-{
-    if 12288 <= code {
-        return Bend::Middle(code - 12288);
-    }
-    if 8192 <= code {
-        return Bend::Left(code - 8192);
-    }
-    if 4096 <= code {
-        return Bend::Right(code - 4096);
-    }
-    Bend::Straight
-}
 
 // Line e of the table.
 pub fn line_in(table: &[u16], e: usize) -> Line

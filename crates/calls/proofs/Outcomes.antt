@@ -1,6 +1,6 @@
 -- The four outcomes of running a list of calls, and where it starts.
 use Prim.Native.Nat.{ℕ, _*_, _<_, _≤_}
-use mathlib.Core.Path.{_≡_, refl}
+use mathlib.Core.Path.{_≡_, refl, ap, subst}
 use mathlib.Core.Bool.{true}
 use mathlib.Core.List.{List}
 use native.Mathlib.Omega.{arith}
@@ -8,6 +8,7 @@ use lib.ListN.{length}
 use Rattle.rules.specs.declared.Answer.the-variants.{Accepted, Refused}
 use Rattle.rules.specs.declared.Refusal.the-variants.{OutOfRange, OutputShort}
 use Rattle.rules.specs.Calls.{drawn}
+use Rattle.links.specs.declared.Counts.{Counts}
 use Rattle.links.specs.Arrays.{Arrays}
 use Rattle.links.specs.Opening.{openArrays, openCounts}
 use Rattle.promise.specs.Bounds.{standing-start}
@@ -22,12 +23,12 @@ use Rattle.calls.specs.Lists.{callsIn}
 use Rattle.calls.specs.Turns.{Begun, Ended, Runs}
 use Rattle.calls.specs.Ran.{Refuses, Ran}
 
--- The arrays as opened hold the drawing as opened.
-pub begun : {n : ℕ} {ws out : List ℕ} (a : Arrays) → Runs n ws out → a ≡ openArrays 1 1 2 → Begun n ws out a (openCounts n 1)
-begun {n} a h is =
+-- The arrays and the numbers as opened hold the drawing as opened.
+pub begun : {n : ℕ} {ws out : List ℕ} (a : Arrays) (c : Counts) → Runs n ws out → (a ≡ openArrays 1 1 2) × (c ≡ openCounts n 1) → Begun (c .n) ws out a c
+begun {n} a c h is =
     record {
       holds =
-          rw is
+          rw (is .0, is .1)
           (record {
             standing = standing-start n 1 true true true (h .low) (h .high);
             sized = sized-open n 1 true true true 1 1 2;
@@ -35,6 +36,10 @@ begun {n} a h is =
           });
       room = h .room;
     }
+
+-- The calls end in the drawing for n points.
+pub ended-for : {n : ℕ} {c k : Counts} {ws out out′ : List ℕ} {a : Arrays} → c ≡ openCounts n 1 → Ended (c .n) ws out a k out′ → Ended n ws out a k out′
+ended-for {k = k} {ws} {out} {out′} {a} is h = subst (λ (n : ℕ). Ended n ws out a k out′) (ap (λ (c : Counts). c .n) is) h
 
 module _ {n : ℕ} {ws before : List ℕ} {r : Done} where
   -- n is out of range.

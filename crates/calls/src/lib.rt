@@ -3,7 +3,11 @@ use drawing::Done;
 use drawing::Drawing;
 use links::Counts;
 use rules::Answer;
+use rules::FEWEST_POINTS;
+use rules::MOST_POINTS;
 use rules::Refusal;
+use tables::END;
+use tables::Table;
 ghost use mathlib.Core.Path.{_≡_};
 ghost use Prim.Native.Nat.{_+_, _<_};
 ghost use lib.ListN.{length, set};
@@ -66,13 +70,7 @@ fn put_answer(out: &mut [u16], at: usize, a: Answer)
 }
 
 // One call on the lent table, with its answer at `at` of the buffer; gives the numbers after it.
-fn one_call(
-    table: &mut [u16; 16384],
-    c: Counts,
-    e: &[u16],
-    answers: &mut [u16],
-    at: usize,
-) -> Counts
+fn one_call(table: &mut Table, c: Counts, e: &[u16], answers: &mut [u16], at: usize) -> Counts
     requires { ⌜ Callable (arraysIn (now table)) c (now e) (now answers) at ⌝ }
     ensures { λ r. ⌜ Made (arraysIn (now (table .entry))) c (now (e .entry)) (now (answers .entry)) at (arraysIn (now (table .exit))) r (now (answers .exit)) ⌝ }
 {
@@ -84,7 +82,7 @@ fn one_call(
 }
 
 // All calls on the lent table, from the drawing as opened, with their answers in the buffer; gives the numbers after them.
-fn all_calls(table: &mut [u16; 16384], opened: Counts, calls: &[u16], answers: &mut [u16]) -> Counts
+fn all_calls(table: &mut Table, opened: Counts, calls: &[u16], answers: &mut [u16]) -> Counts
     requires { ⌜ Begun (opened .n) (now calls) (now answers) (arraysIn (now table)) opened ⌝ }
     ensures { λ r. ⌜ Ended (opened .n) (now (calls .entry)) (now (answers .entry)) (arraysIn (now (table .exit))) r (now (answers .exit)) ⌝ }
 {
@@ -107,15 +105,8 @@ fn draw_calls(n: usize, calls: &[u16], answers: &mut [u16]) -> Drawing
     requires { ⌜ Runs n (now calls) (now answers) ⌝ }
     ensures { λ r. ⌜ Ended n (now (calls .entry)) (now (answers .entry)) (arraysIn (r .table)) (r .counts) (now (answers .exit)) ⌝ }
 {
-    let mut table = [0u16; 16384];
-    opening::open_in(&mut table, 1, 1, 2);
-    let opened = Counts {
-        n,
-        s: 1,
-        k: 3,
-        m: 3,
-        lines: 3,
-    };
+    let mut table = [0u16; END];
+    let opened = opening::open_in(&mut table, n, 1, 1, 1, 2);
     let counts = all_calls(&mut table, opened, calls, answers);
     Drawing { counts, table }
 }
@@ -134,10 +125,10 @@ fn refuse(why: Refusal) -> Done
 pub fn run(n: usize, calls: &[u16], answers: &mut [u16]) -> Done
     ensures { λ r. ⌜ Ran n (now (calls .entry)) (now (answers .entry)) (now (answers .exit)) r ⌝ }
 {
-    if n < 3 {
+    if n < FEWEST_POINTS {
         return refuse(Refusal::OutOfRange);
     }
-    if 1024 < n {
+    if MOST_POINTS < n {
         return refuse(Refusal::OutOfRange);
     }
     let needed = 2 * count_calls(calls);

@@ -5,6 +5,7 @@ use drawing::Placed;
 use drawing::PointSeen;
 use rules::Place;
 use rules::Refusal;
+use tables::Table;
 use tables::WORDS;
 use tool::Checked;
 use tool::Move;
@@ -45,7 +46,7 @@ fn is_cut(word: u16) -> bool
 }
 
 // The number of the j-th cut line, from 0, or the number of lines where there is none.
-fn nth_cut(table: &[u16; 16384], lines: usize, j: usize) -> usize
+fn nth_cut(table: &Table, lines: usize, j: usize) -> usize
     requires { ⌜ lines ≤ 3072 ⌝ }
     ensures { λ r. ⌜ NthCut (arraysIn (now (table .entry)) .words) lines j r ⌝ }
 {
@@ -64,7 +65,7 @@ fn nth_cut(table: &[u16; 16384], lines: usize, j: usize) -> usize
 }
 
 // How many of the lines are cut.
-fn cut_count(table: &[u16; 16384], lines: usize) -> usize
+fn cut_count(table: &Table, lines: usize) -> usize
     requires { ⌜ lines ≤ 3072 ⌝ }
     ensures { λ r. ⌜ (r ≡ cutsTo (arraysIn (now (table .entry)) .words) lines) × (r ≤ lines) ⌝ }
 {

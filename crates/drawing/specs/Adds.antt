@@ -16,12 +16,11 @@ use Rattle.links.specs.declared.Counts.{Counts}
 use Rattle.links.specs.Arrays.{Arrays}
 use Rattle.links.specs.Storing.{judged, arraysAfter, countsAfter}
 use Rattle.stored.specs.Adding.{Holds, called}
-use Rattle.tables.specs.Tables.{Full, arraysIn, table-long}
+use Rattle.tables.specs.Tables.{Full, arraysIn, table-long, tableSize, table-same}
 use Rattle.adding.specs.Calls.{Ready, Answered}
 use Rattle.drawing.specs.declared.Drawing.{Drawing}
 use Rattle.drawing.specs.declared.Done.{Done}
 use Rattle.drawing.specs.View.{Is, Came}
-use Rattle.drawing.specs.Whole.{table-same}
 
 pub record AddsTo (d : Drawing) (es : List ℕ) (r : Done) : Type 0 where
   pub right : (p : Plan) → Is p d → (r .answer ≡ answer (add p es)) × Is (left p (add p es)) (r .drawing)
@@ -38,7 +37,7 @@ kept-by a c es (good t) f at e = let z : _≡_ {A = ℕ} 0 1 = cc in absurd (ome
 kept-by a c es (refused r p) f at e = (refl, refl)
 
 -- What the core answers and leaves is what adding must give.
-pub adds : {d : Drawing} {es t : List ℕ} {x : Added} → Came d → length (d .table) ≡ 16384 → length t ≡ 16384 → Answered (arraysIn (d .table)) (d .counts) es (arraysIn t) x →
+pub adds : {d : Drawing} {es t : List ℕ} {x : Added} → Came d → length (d .table) ≡ tableSize → length t ≡ tableSize → Answered (arraysIn (d .table)) (d .counts) es (arraysIn t) x →
     AddsTo d es (record { answer = x .answer; drawing = record { counts = x .counts; table = t } })
 adds {d} {es} {t} {x} c n n′ h = record { right = right; came = came; kept = kept }
   where

@@ -3,5 +3,4 @@ pub mod Opens
 pub mod Places
 pub mod Lines
 pub mod Cuts
-pub mod Whole
 pub mod Adds

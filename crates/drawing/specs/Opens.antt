@@ -9,7 +9,7 @@ use Rattle.rules.specs.declared.Refusal.the-variants.{OutOfRange}
 use Rattle.rules.specs.Basics.{between}
 use Rattle.rules.specs.Refusals.{Result, good, refused, answer}
 use Rattle.rules.specs.Points.{Drawing as Plan, opening, opened}
-use Rattle.links.specs.Opening.{openArrays, openCounts}
+use Rattle.links.specs.Opening.{openArrays, openCounts, noCounts}
 use Rattle.tables.specs.Tables.{arraysIn}
 use Rattle.opening.specs.Zeros.{zeros}
 use Rattle.promise.specs.Bounds.{standing-start}
@@ -21,7 +21,7 @@ use Rattle.drawing.specs.View.{Is, Came}
 
 -- a drawing whose numbers are all 0
 unfoldable pub blank : Drawing
-blank = record { counts = record { n = 0; s = 0; k = 0; m = 0; lines = 0 }; table = zeros }
+blank = record { counts = noCounts; table = zeros }
 
 -- the drawing that goes with what the rules give
 abbrev pub DrawingOf : Result Plan → Drawing → Type 0

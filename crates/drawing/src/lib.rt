@@ -1,10 +1,15 @@
 // The drawing by value: opening, adding, look-ups. It wraps the core over a lent table and copies at entry and exit only.
 use links::Counts;
 use rules::Answer;
+use rules::FEWEST_POINTS;
 use rules::Line;
+use rules::MOST_POINTS;
 use rules::Place;
 use rules::Refusal;
+use tables::END;
 use tables::LATER;
+use tables::POINTS;
+use tables::Table;
 use tables::WORDS;
 use tables::YS;
 ghost use mathlib.Core.Path.{_≡_};
@@ -25,13 +30,13 @@ ghost use Rattle.drawing.specs.Places.{IsPlaced};
 // A drawing as the program keeps it: boundary links and gaps in one table (crate `links` says what each of its arrays holds).
 pub struct Drawing {
     pub counts: Counts,
-    pub table: [u16; 16384],
+    pub table: Table,
 }
 
 // A drawing with the x of every placed point, settled once for many look-ups.
 pub struct Placed {
     pub drawing: Drawing,
-    pub x: [u16; 1024],
+    pub x: [u16; POINTS],
 }
 
 // What a call answers, and the drawing that it returns or leaves.
@@ -62,14 +67,8 @@ pub fn no_drawing() -> Drawing
     ensures { λ r. ⌜ r ≡ blank ⌝ }
 {
     Drawing {
-        counts: Counts {
-            n: 0,
-            s: 0,
-            k: 0,
-            m: 0,
-            lines: 0,
-        },
-        table: [0u16; 16384],
+        counts: links::no_counts(),
+        table: [0u16; END],
     }
 }
 
@@ -77,25 +76,16 @@ pub fn no_drawing() -> Drawing
 fn as_opened(n: usize) -> Drawing
     ensures { λ r. ⌜ OpenFor n r ⌝ }
 {
-    let mut table = [0u16; 16384];
-    opening::open_in(&mut table, 1, 1, 2);
-    Drawing {
-        counts: Counts {
-            n,
-            s: 1,
-            k: 3,
-            m: 3,
-            lines: 3,
-        },
-        table,
-    }
+    let mut table = [0u16; END];
+    let counts = opening::open_in(&mut table, n, 1, 1, 1, 2);
+    Drawing { counts, table }
 }
 
 // Opens a drawing for n points.
 pub fn open(n: usize) -> Done
     ensures { λ r. ⌜ Opens n r ⌝ }
 {
-    if n < 3 || 1024 < n {
+    if n < FEWEST_POINTS || MOST_POINTS < n {
         return Done {
             answer: Answer::Refused(Refusal::OutOfRange, 0),
             drawing: no_drawing(),
@@ -129,11 +119,11 @@ fn is_point(k: usize, p: usize) -> bool
 }
 
 // The x of every placed point.
-fn settled(table: &[u16; 16384], k: usize) -> [u16; 1024]
+fn settled(table: &Table, k: usize) -> [u16; POINTS]
     requires { ⌜ Settleable noPoints (arraysIn (now table)) k ⌝ }
     ensures { λ r. ⌜ Settled r (arraysIn (now (table .entry))) k ⌝ }
 {
-    let mut x = [0u16; 1024];
+    let mut x = [0u16; POINTS];
     settling::settle(&mut x, table, k);
     x
 }
@@ -210,7 +200,7 @@ fn is_cut_to(word: u16, later: u16, p: usize) -> bool
 }
 
 // The first cut line that ends at p, or the number of lines.
-fn first_cut(table: &[u16; 16384], lines: usize, p: usize) -> usize
+fn first_cut(table: &Table, lines: usize, p: usize) -> usize
     requires { ⌜ lines ≤ 3072 ⌝ }
     ensures { λ r. ⌜ FirstCut (arraysIn (now (table .entry))) lines p r ⌝ }
 {

@@ -10,7 +10,7 @@ use Rattle.rules.specs.declared.Refusal.the-variants.{OutOfRange}
 use Rattle.rules.specs.declared.Answer.the-variants.{Accepted, Refused}
 use Rattle.rules.specs.Basics.{between}
 use Rattle.rules.specs.Refusals.{Result, _>>_, answer}
-use Rattle.rules.specs.Records.{readEnd}
+use Rattle.rules.specs.Records.{readEnd, drawingMark, placeMark, lineMark, headSize}
 use Rattle.records.specs.Results.{accepted, stops, goes-on}
 use Rattle.records.specs.Cursors.{cursor}
 use Rattle.records.specs.Marked.{recordTests, records-there}
@@ -22,15 +22,15 @@ module _ (f : List ℕ) where
   -- ---- the header
 
   abbrev head : Result (Unit {0})
-  head = recordTests f 0x4448 4 1 0
+  head = recordTests f drawingMark 4 1 0
 
   pub head-stops : (r : Refusal) (p : ℕ) → answer head ≡ Refused r p → answer head ≡ answer (headTests f)
   unfolding headTests
   head-stops r p h = stops head _ r p h
 
   module _ (h : answer head ≡ Accepted) where
-    pub head-long : 10 ≤ length f
-    head-long = records-there f 0x4448 4 1 0 (omega arith) (accepted head h)
+    pub head-long : headSize ≤ length f
+    head-long = records-there f drawingMark 4 1 0 (omega arith) (accepted head h)
 
     pub n-out : between 3 1024 (nIn f) ≡ false → Refused OutOfRange 0 ≡ answer (headTests f)
     unfolding headTests
@@ -46,12 +46,12 @@ module _ (f : List ℕ) where
 
   -- ---- the points, the lines and the end
 
-  module _ (n : ℕ) (start : 10 ≤ length f) where
+  module _ (n : ℕ) (start : headSize ≤ length f) where
     abbrev points : Result (Unit {0})
-    points = recordTests f 0x504F 2 n 10
+    points = recordTests f placeMark 2 n headSize
 
     abbrev lines : Result (Unit {0})
-    lines = recordTests f 0x4C4E 5 (lineCount n) (linesFrom n)
+    lines = recordTests f lineMark 5 (lineCount n) (linesFrom n)
 
     pub points-stop : (r : Refusal) (p : ℕ) → answer points ≡ Refused r p → answer points ≡ answer (bodyTests f n)
     unfolding bodyTests
@@ -59,7 +59,7 @@ module _ (f : List ℕ) where
 
     module _ (h : answer points ≡ Accepted) where
       pub points-there : linesFrom n ≤ length f
-      points-there = records-there f 0x504F 2 n 10 start (accepted points h)
+      points-there = records-there f placeMark 2 n headSize start (accepted points h)
 
       pub lines-stop : (r : Refusal) (p : ℕ) → answer lines ≡ Refused r p → answer lines ≡ answer (bodyTests f n)
       unfolding bodyTests
@@ -67,7 +67,7 @@ module _ (f : List ℕ) where
 
       module _ (g : answer lines ≡ Accepted) where
         pub lines-there : linesEnd n ≤ length f
-        lines-there = records-there f 0x4C4E 5 (lineCount n) (linesFrom n) points-there (accepted lines g)
+        lines-there = records-there f lineMark 5 (lineCount n) (linesFrom n) points-there (accepted lines g)
 
         pub end-says : answer (readEnd (cursor f (linesEnd n))) ≡ answer (bodyTests f n)
         unfolding bodyTests

@@ -10,7 +10,7 @@ use Rattle.rules.specs.declared.Refusal.{Refusal}
 use Rattle.rules.specs.declared.Refusal.the-variants.{OutOfRange}
 use Rattle.rules.specs.Basics.{between}
 use Rattle.rules.specs.Refusals.{Result, good, _>>_, refuseIf}
-use Rattle.rules.specs.Records.{Found, readEnd}
+use Rattle.rules.specs.Records.{Found, readEnd, drawingMark, placeMark, lineMark, headSize, placeSize, lineSize}
 use Rattle.words.specs.Bytes.{wordAt}
 use Rattle.records.specs.Results.{both}
 use Rattle.records.specs.Ranges.{both-true, in-range}
@@ -28,13 +28,13 @@ sIn f = wordAt f 4
 
 -- where the lines start, how many there are, and where they end
 abbrev pub linesFrom : ℕ → ℕ
-linesFrom n = 10 + 6 * n
+linesFrom n = headSize + placeSize * n
 
 abbrev pub lineCount : ℕ → ℕ
 lineCount n = 3 * n - 6
 
 abbrev pub linesEnd : ℕ → ℕ
-linesEnd n = linesFrom n + 12 * lineCount n
+linesEnd n = linesFrom n + lineSize * lineCount n
 
 -- the lines of a file
 abbrev pub linesOf : List ℕ → List Found
@@ -43,14 +43,14 @@ linesOf f = linesAt f (lineCount (nIn f)) (linesFrom (nIn f))
 -- "1, 2, 3 on the header (s from 1 to 8)"
 unfoldable pub headTests : List ℕ → Result (Unit {0})
 headTests f = do
-  recordTests f 0x4448 4 1 0
+  recordTests f drawingMark 4 1 0
   refuseIf (not (between 3 1024 (nIn f) && between 1 8 (sIn f))) OutOfRange 0
 
 -- "1 and 2 on all other records, 10"
 unfoldable pub bodyTests : List ℕ → ℕ → Result (Unit {0})
 bodyTests f n = do
-  recordTests f 0x504F 2 n 10
-  recordTests f 0x4C4E 5 (lineCount n) (linesFrom n)
+  recordTests f placeMark 2 n headSize
+  recordTests f lineMark 5 (lineCount n) (linesFrom n)
   readEnd (cursor f (linesEnd n))
 
 -- "1, 2, 3 on the header, 1 and 2 on all other records, 10, then 4"
@@ -67,17 +67,17 @@ unrefused : (t : Bool) (r : Refusal) (p : ℕ) → refuseIf t r p ≡ good tt �
 unrefused true r p h = cc
 unrefused false r p h = refl
 
-pub head-tells : (f : List ℕ) → headTests f ≡ good tt → (10 ≤ length f) × (3 ≤ nIn f) × (nIn f ≤ 1024)
+pub head-tells : (f : List ℕ) → headTests f ≡ good tt → (headSize ≤ length f) × (3 ≤ nIn f) × (nIn f ≤ 1024)
 unfolding headTests
 head-tells f h =
-    let t = both (recordTests f 0x4448 4 1 0) _ h in
+    let t = both (recordTests f drawingMark 4 1 0) _ h in
     let r = both-true (between 3 1024 (nIn f)) (between 1 8 (sIn f)) (not-false _ (unrefused _ OutOfRange 0 (t .1))) in
     let n = in-range 3 1024 (nIn f) (r .0) in
-    (records-there f 0x4448 4 1 0 (omega arith) (t .0), n .0, n .1)
+    (records-there f drawingMark 4 1 0 (omega arith) (t .0), n .0, n .1)
 
-pub body-tells : (f : List ℕ) (n : ℕ) → 10 ≤ length f → bodyTests f n ≡ good tt → linesEnd n ≤ length f
+pub body-tells : (f : List ℕ) (n : ℕ) → headSize ≤ length f → bodyTests f n ≡ good tt → linesEnd n ≤ length f
 unfolding bodyTests
 body-tells f n l h =
-    let p = both (recordTests f 0x504F 2 n 10) _ h in
-    let q = both (recordTests f 0x4C4E 5 (lineCount n) (linesFrom n)) _ (p .1) in
-    records-there f 0x4C4E 5 (lineCount n) (linesFrom n) (records-there f 0x504F 2 n 10 l (p .0)) (q .0)
+    let p = both (recordTests f placeMark 2 n headSize) _ h in
+    let q = both (recordTests f lineMark 5 (lineCount n) (linesFrom n)) _ (p .1) in
+    records-there f lineMark 5 (lineCount n) (linesFrom n) (records-there f placeMark 2 n headSize l (p .0)) (q .0)

@@ -11,7 +11,7 @@ use Rattle.rules.specs.Refusals.{Result, good, refused, answer, placed}
 use Rattle.rules.specs.Points.{Drawing}
 use Rattle.rules.specs.Adding.{addEntries, add}
 use Rattle.rules.specs.Calls.{left}
-use Rattle.rules.specs.Records.{Found}
+use Rattle.rules.specs.Records.{Found, lineSize}
 use Rattle.rules.specs.DrawingFile.{group, behind, groupPlace}
 use Rattle.links.specs.declared.Added.{Added}
 use Rattle.links.specs.declared.Counts.{Counts}
@@ -40,7 +40,7 @@ counts-more (good u) c es h = (refl, refl, refl)
 counts-more (refused r p) c es h = let z : _≡_ {A = ℕ} 0 1 = cc in absurd (omega arith)
 
 module _ (f : List ℕ) (base total : ℕ) (a a′ : Arrays) (c : Counts) (r : Added) (e : List ℕ) (count p : ℕ) (few : c .lines ≤ total) (room : total ≤ length e)
-    (isP : p ≡ c .k + 1) (t : Taken f (base + 12 * c .lines) (total - c .lines) p e count) (s : Answered a c (take count e) a′ r)
+    (isP : p ≡ c .k + 1) (t : Taken f (base + lineSize * c .lines) (total - c .lines) p e count) (s : Answered a c (take count e) a′ r)
     (d : Drawing) (h : Holds d a c) where
   abbrev fs : List Found
   fs = linesBehind f base total (c .lines)
@@ -54,21 +54,21 @@ module _ (f : List ℕ) (base total : ℕ) (a a′ : Arrays) (c : Counts) (r : A
       add-alike d (omega (arith, h .standing .ranged .room, h .standing .ranged .high)) (group (suc (d .k)) fs) ∙
       ap (add d) (sym (t .entries ∙ ap (λ (q : ℕ). map numberFor (group q fs)) point))
 
-  place : groupPlace (base + 12 * total) fs ≡ base + 12 * c .lines
+  place : groupPlace (base + lineSize * total) fs ≡ base + lineSize * c .lines
   place =
-      let end : base + 12 * total ≡ base + 12 * c .lines + 12 * (total - c .lines) = omega arith in
-      ap (λ (n : ℕ). groupPlace n fs) end ∙ group-place f (total - c .lines) (base + 12 * c .lines)
+      let end : base + lineSize * total ≡ base + lineSize * c .lines + lineSize * (total - c .lines) = omega arith in
+      ap (λ (n : ℕ). groupPlace n fs) end ∙ group-place f (total - c .lines) (base + lineSize * c .lines)
 
-  next-is : nextGroup f base total (c .lines) d ≡ placed (base + 12 * c .lines) (add d (take count e))
+  next-is : nextGroup f base total (c .lines) d ≡ placed (base + lineSize * c .lines) (add d (take count e))
   unfolding nextGroup
   next-is = ap₂ placed place entered
 
-  group-answers : answerAt (base + 12 * c .lines) (r .answer) ≡ answer (nextGroup f base total (c .lines) d)
+  group-answers : answerAt (base + lineSize * c .lines) (r .answer) ≡ answer (nextGroup f base total (c .lines) d)
   group-answers =
-      ap (answerAt (base + 12 * c .lines)) (s .answer ∙ called h (take count e) .answers) ∙ answer-at (base + 12 * c .lines) (add d (take count e)) ∙ sym (ap answer next-is)
+      ap (answerAt (base + lineSize * c .lines)) (s .answer ∙ called h (take count e) .answers) ∙ answer-at (base + lineSize * c .lines) (add d (take count e)) ∙ sym (ap answer next-is)
 
   group-holds : Holds (left d (nextGroup f base total (c .lines) d)) a′ (r .counts)
-  group-holds = rw (next-is, ← left-at d (base + 12 * c .lines) (add d (take count e)), s .arrays, s .counts) (called h (take count e) .holds)
+  group-holds = rw (next-is, ← left-at d (base + lineSize * c .lines) (add d (take count e)), s .arrays, s .counts) (called h (take count e) .holds)
 
   group-behind : r .answer ≡ Accepted → GroupBehind f base total c d (r .counts)
   group-behind q =
@@ -76,7 +76,7 @@ module _ (f : List ℕ) (base total : ℕ) (a a′ : Arrays) (c : Counts) (r : A
       let long : length (take count e) ≡ count = length-take-le count e (omega (arith, t .few)) in
       let lines : r .counts .lines ≡ c .lines + count = ap (λ (x : Counts). x .lines) (s .counts) ∙ m .2 ∙ ap (λ (x : ℕ). c .lines + x) long in
       let left-over : total - c .lines - count ≡ total - r .counts .lines = omega arith in
-      let from : base + 12 * c .lines + 12 * count ≡ base + 12 * r .counts .lines = omega arith in
+      let from : base + lineSize * c .lines + lineSize * count ≡ base + lineSize * r .counts .lines = omega arith in
       record {
         n = ap (λ (x : Counts). x .n) (s .counts) ∙ m .0;
         k = ap (λ (x : Counts). x .k) (s .counts) ∙ m .1;
@@ -90,8 +90,8 @@ at-accepted p (Refused r q) h = cc
 
 -- all of this, for the answer at the group's place
 pub grouped : {f : List ℕ} {base total : ℕ} {a a′ : Arrays} {c : Counts} {r : Added} {e : List ℕ} {count p : ℕ} → c .lines ≤ total → total ≤ length e →
-    p ≡ c .k + 1 → Taken f (base + 12 * c .lines) (total - c .lines) p e count → Answered a c (take count e) a′ r →
-    (said : Answer) → said ≡ answerAt (base + 12 * c .lines) (r .answer) → Grouped f base total a c a′ (record { answer = said; counts = r .counts })
+    p ≡ c .k + 1 → Taken f (base + lineSize * c .lines) (total - c .lines) p e count → Answered a c (take count e) a′ r →
+    (said : Answer) → said ≡ answerAt (base + lineSize * c .lines) (r .answer) → Grouped f base total a c a′ (record { answer = said; counts = r .counts })
 grouped {f} {base} {total} {a} {a′} {c} {r} {e} {count} {p} few room isP t s said q =
     record {
       answers = λ d h. q ∙ group-answers f base total a a′ c r e count p few room isP t s d h;

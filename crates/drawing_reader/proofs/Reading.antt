@@ -22,6 +22,7 @@ use Rattle.records.specs.Results.{stops}
 use Rattle.line_records.specs.Lines.{linesAt, lineAt}
 use Rattle.line_records.specs.Groups.{numberFor}
 use Rattle.drawing_judging.specs.Files.{nIn, sIn, linesFrom, lineCount, linesEnd, fileTests}
+use Rattle.rules.specs.Records.{headSize, placeSize, lineSize}
 use Rattle.drawing_reader.specs.Judged.{judgeDrawing}
 use Rattle.drawing_reader.specs.Whole.{judged-so, firstLine, secondLine, thirdLine, begunIn, Passes, number-back}
 use Rattle.drawing_reader.specs.Contracted.{restGroups, AllGrouped, LinesRead}
@@ -40,30 +41,32 @@ refused-early {f} said h r p q =
     never (refused v i) y d e z = let o : _≡_ {A = ℕ} 0 1 = cc in omega arith
 
 -- where its lines lie
-pub lines-lie : {f : List ℕ} → Passes f → (n : ℕ) → n ≡ nIn f → (10 + 6 * n + 12 * (3 * n - 6) ≤ length f) × (3 ≤ n) × (n ≤ 1024)
+pub lines-lie : {f : List ℕ} → Passes f → (n : ℕ) → n ≡ nIn f → (headSize + placeSize * n + lineSize * (3 * n - 6) ≤ length f) × (3 ≤ n) × (n ≤ 1024)
 lines-lie t n is = (omega (arith, t .there, t .low), omega (arith, t .low), omega (arith, t .high))
 
 module _ {f : List ℕ} (t : Passes f) (n s : ℕ) (isN : n ≡ nIn f) (isS : s ≡ sIn f) where
-  -- the arrays as opened
-  pub opened-holds : (x y z : ℕ) (a : Arrays) → x ≡ numberFor (entryIn (lineAt f (10 + 6 * n))) → y ≡ numberFor (entryIn (lineAt f (10 + 6 * n + 12))) → z ≡ numberFor (entryIn (lineAt f (10 + 6 * n + 24))) →
-      a ≡ openArrays x y z → Holds (begunIn f) a (openCounts n s)
-  opened-holds x y z a hx hy hz ha =
+  -- the arrays and the numbers as opened
+  pub opened-holds : (x y z : ℕ) (a : Arrays) (c : Counts) → x ≡ numberFor (entryIn (lineAt f (headSize + placeSize * n))) → y ≡ numberFor (entryIn (lineAt f (headSize + placeSize * n + lineSize))) → z ≡ numberFor (entryIn (lineAt f (headSize + placeSize * n + 2 * lineSize))) →
+      (a ≡ openArrays x y z) × (c ≡ openCounts n s) → Holds (begunIn f) a c
+  opened-holds x y z a c hx hy hz (ha, hc) =
       let ex : entryOf x ≡ record { point = 1; cut = entryIn (firstLine f) .cut } =
-      ap entryOf (hx ∙ ap (λ (m : ℕ). numberFor (entryIn (lineAt f (10 + 6 * m)))) isN) ∙ number-back (firstLine f) 1 (t .first) (omega arith)
+      ap entryOf (hx ∙ ap (λ (m : ℕ). numberFor (entryIn (lineAt f (headSize + placeSize * m)))) isN) ∙ number-back (firstLine f) 1 (t .first) (omega arith)
       in
       let ey : entryOf y ≡ record { point = 1; cut = entryIn (secondLine f) .cut } =
-      ap entryOf (hy ∙ ap (λ (m : ℕ). numberFor (entryIn (lineAt f (10 + 6 * m + 12)))) isN) ∙ number-back (secondLine f) 1 (t .second) (omega arith)
+      ap entryOf (hy ∙ ap (λ (m : ℕ). numberFor (entryIn (lineAt f (headSize + placeSize * m + lineSize)))) isN) ∙ number-back (secondLine f) 1 (t .second) (omega arith)
       in
       let ez : entryOf z ≡ record { point = 2; cut = entryIn (thirdLine f) .cut } =
-      ap entryOf (hz ∙ ap (λ (m : ℕ). numberFor (entryIn (lineAt f (10 + 6 * m + 24)))) isN) ∙ number-back (thirdLine f) 2 (t .third) (omega arith)
+      ap entryOf (hz ∙ ap (λ (m : ℕ). numberFor (entryIn (lineAt f (headSize + placeSize * m + 2 * lineSize)))) isN) ∙ number-back (thirdLine f) 2 (t .third) (omega arith)
       in
-      rw (ha, isN, isS)
+      rw (ha, hc, isN, isS)
       (record { standing = standing-start (nIn f) (sIn f) _ _ _ (t .low) (t .high); sized = sized-open (nIn f) (sIn f) (entryIn (firstLine f) .cut) (entryIn (secondLine f) .cut) (entryIn (thirdLine f) .cut) x y z; stores = stores-open (nIn f) (sIn f) _ _ _ x y z ex ey ez })
 
   -- what is left to judge
-  left-over : restGroups f (10 + 6 * n) (3 * n - 6) (openCounts n s) (begunIn f) ≡ judgeDrawing f
-  left-over = ap (λ (m : ℕ). judgeRest (m - 3) (linesEnd m) (begunIn f) (linesAt f (lineCount m - 3) (linesFrom m + 36))) isN ∙ sym (t .left)
+  left-over : {c : Counts} → c ≡ openCounts n s → restGroups f (headSize + placeSize * n) (3 * n - 6) c (begunIn f) ≡ judgeDrawing f
+  left-over e =
+      ap (λ (c : Counts). restGroups f (headSize + placeSize * n) (3 * n - 6) c (begunIn f)) e ∙
+      ap (λ (m : ℕ). judgeRest (m - 3) (linesEnd m) (begunIn f) (linesAt f (lineCount m - 3) (linesFrom m + 3 * lineSize))) isN ∙ sym (t .left)
 
   -- the whole file
-  pub all-read : {a a′ : Arrays} {r : Added} → Holds (begunIn f) a (openCounts n s) → AllGrouped f (10 + 6 * n) (3 * n - 6) a (openCounts n s) a′ r → LinesRead f a′ r
-  all-read h g = record { answers = g .answers (begunIn f) h ∙ ap answer left-over; holds = λ d q. g .holds (begunIn f) d h (left-over ∙ q) }
+  pub all-read : {a a′ : Arrays} {c : Counts} {r : Added} → c ≡ openCounts n s → Holds (begunIn f) a c → AllGrouped f (headSize + placeSize * n) (3 * n - 6) a c a′ r → LinesRead f a′ r
+  all-read e h g = record { answers = g .answers (begunIn f) h ∙ ap answer (left-over e); holds = λ d q. g .holds (begunIn f) d h (left-over e ∙ q) }

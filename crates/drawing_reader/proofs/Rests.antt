@@ -13,6 +13,7 @@ use Rattle.links.specs.declared.Added.{Added}
 use Rattle.links.specs.declared.Counts.{Counts}
 use Rattle.links.specs.Arrays.{Arrays}
 use Rattle.stored.specs.Adding.{Holds}
+use Rattle.rules.specs.Records.{lineSize}
 use Rattle.drawing_reader.specs.Contracted.{linesBehind, nextGroup, restGroups, GroupBehind, Grouped}
 
 -- the arrays hold a drawing from which the rest of the groups gives z
@@ -24,7 +25,7 @@ pub record Going (f : List ℕ) (base total : ℕ) (z : Result Drawing) (a : Arr
 
 -- one group, then the rest
 rest-more : (f : List ℕ) (base total : ℕ) (c : Counts) (d : Drawing) → c .k < c .n →
-    restGroups f base total c d ≡ (nextGroup f base total (c .lines) d >>= λ e. judgeRest (c .n - suc (c .k)) (base + 12 * total) e (behind (suc (d .k)) (linesBehind f base total (c .lines))))
+    restGroups f base total c d ≡ (nextGroup f base total (c .lines) d >>= λ e. judgeRest (c .n - suc (c .k)) (base + lineSize * total) e (behind (suc (d .k)) (linesBehind f base total (c .lines))))
 unfolding judgeRest nextGroup
 rest-more f base total c d h =
     let one : c .n - c .k ≡ suc (c .n - suc (c .k)) = omega arith in
@@ -46,7 +47,7 @@ module _ {f : List ℕ} {base total : ℕ} {z : Result Drawing} {a a′ : Arrays
   next = nextGroup f base total (c .lines) (g .d)
 
   abbrev after : Drawing → Result Drawing
-  after e = judgeRest (c .n - suc (c .k)) (base + 12 * total) e (behind (suc (g .d .k)) (linesBehind f base total (c .lines)))
+  after e = judgeRest (c .n - suc (c .k)) (base + lineSize * total) e (behind (suc (g .d .k)) (linesBehind f base total (c .lines)))
 
   by-next : z ≡ (next >>= after)
   by-next = g .same ∙ rest-more f base total c (g .d) more

@@ -9,7 +9,7 @@ use Rattle.rules.specs.Refusals.{Result, good, answer, placed}
 use Rattle.rules.specs.Points.{Drawing}
 use Rattle.rules.specs.Adding.{addEntries}
 use Rattle.rules.specs.Calls.{left}
-use Rattle.rules.specs.Records.{Found}
+use Rattle.rules.specs.Records.{Found, lineSize}
 use Rattle.rules.specs.DrawingFile.{group, behind, groupPlace, judgeRest}
 use Rattle.links.specs.declared.Added.{Added}
 use Rattle.links.specs.declared.Counts.{Counts}
@@ -28,20 +28,20 @@ answerAt place (Refused r p) = Refused r place
 
 -- the lines from line i on, where `total` lines start at `base`
 abbrev pub linesBehind : List ℕ → ℕ → ℕ → ℕ → List Found
-linesBehind f base total i = linesAt f (total - i) (base + 12 * i)
+linesBehind f base total i = linesAt f (total - i) (base + lineSize * i)
 
 -- the group of the next point, judged at its place, where line i is next
 unfoldable pub nextGroup : List ℕ → ℕ → ℕ → ℕ → Drawing → Result Drawing
 nextGroup f base total i d =
-    placed (groupPlace (base + 12 * total) (linesBehind f base total i)) (addEntries d (group (suc (d .k)) (linesBehind f base total i)))
+    placed (groupPlace (base + lineSize * total) (linesBehind f base total i)) (addEntries d (group (suc (d .k)) (linesBehind f base total i)))
 
 -- the groups of all points that are left
 abbrev pub restGroups : List ℕ → ℕ → ℕ → Counts → Drawing → Result Drawing
-restGroups f base total c d = judgeRest (c .n - c .k) (base + 12 * total) d (linesBehind f base total (c .lines))
+restGroups f base total c d = judgeRest (c .n - c .k) (base + lineSize * total) d (linesBehind f base total (c .lines))
 
 -- the lines are there, the next one is c's, and the arrays hold a drawing
 pub record Groups (f : List ℕ) (base total : ℕ) (a : Arrays) (c : Counts) : Type 0 where
-  pub there : base + 12 * total ≤ length f
+  pub there : base + lineSize * total ≤ length f
   pub few : c .lines ≤ total
   pub most : total ≤ 3072
   pub ready : Ready a c

@@ -12,7 +12,7 @@ use Rattle.rules.specs.declared.Refusal.{Refusal}
 use Rattle.rules.specs.declared.Refusal.the-variants.{Finished, FewEntries, NotPlaced, Covered}
 use Rattle.rules.specs.Basics.{elem}
 use Rattle.rules.specs.Refusals.{Result, good, refused, _>>_, refuseIf}
-use Rattle.rules.specs.Entries.{entryOf}
+use Rattle.rules.specs.Entries.{entryOf, pointLimit}
 use Rattle.rules.specs.Points.{Drawing}
 use Rattle.rules.specs.Adding.{pointsOf, entryTests, judge, addEntries, add}
 use Rattle.rules.specs.RoundTrip.{entry-back}
@@ -23,18 +23,18 @@ use Rattle.line_records.specs.Groups.{numberFor}
 abbrev readBack : Entry → Entry
 readBack e = entryOf (numberFor e)
 
-module _ (d : Drawing) (few : d .k < 32768) where
+module _ (d : Drawing) (few : d .k < pointLimit) where
   -- an entry is refused as what is read back, or is that
   data Alike (e : Entry) : Type 0 where
     equal : readBack e ≡ e → Alike e
     absent : (eqb (e .point) 0 || ltb (d .k) (e .point)) ≡ true → readBack e .point ≡ 0 → Alike e
 
   alike : (e : Entry) → Alike e
-  alike e = go (ltb (e .point) 32768) refl
+  alike e = go (ltb (e .point) pointLimit) refl
     where
-      go : (t : Bool) → ltb (e .point) 32768 ≡ t → Alike e
-      go true q = equal (rw q (entry-back e (ltb-true (e .point) 32768 q)))
-      go false q = let h = ltb-false (e .point) 32768 q in absent (rw (ne-eqb (e .point) 0 (omega arith), lt-ltb (d .k) (e .point) (omega arith))) (rw q)
+      go : (t : Bool) → ltb (e .point) pointLimit ≡ t → Alike e
+      go true q = equal (rw q (entry-back e (ltb-true (e .point) pointLimit q)))
+      go false q = let h = ltb-false (e .point) pointLimit q in absent (rw (ne-eqb (e .point) 0 (omega arith), lt-ltb (d .k) (e .point) (omega arith))) (rw q)
 
   -- 6 and 7
   tests-alike : (i : ℕ) (es : List Entry) → entryTests d i (pointsOf es) ≡ entryTests d i (pointsOf (map readBack es))

@@ -1,5 +1,5 @@
 -- What a drawing file that passes all tests before the groups of points 4 to n is known to be, and what is left to judge of it.
-use Prim.Native.Nat.{ℕ, _+_, _-_, _<_, _≤_}
+use Prim.Native.Nat.{ℕ, _+_, _-_, _*_, _<_, _≤_}
 use mathlib.Core.Path.{_≡_, refl, ap, ap₂, sym, _∙_}
 use mathlib.Core.Bool.{Bool, true, false}
 use mathlib.Core.List.{List, _∷_}
@@ -8,9 +8,9 @@ use lib.ListN.{length}
 use borrow.Author.Tests.{eq-eqb, ne-eqb, lt-ltb}
 use Rattle.rules.specs.declared.Refusal.the-variants.{OtherStart}
 use Rattle.rules.specs.Refusals.{Result, good, refused, _>>_}
-use Rattle.rules.specs.Entries.{entryOf, wordOf}
+use Rattle.rules.specs.Entries.{entryOf, wordOf, pointLimit}
 use Rattle.rules.specs.Points.{Drawing, start}
-use Rattle.rules.specs.Records.{Found}
+use Rattle.rules.specs.Records.{Found, lineSize}
 use Rattle.rules.specs.RoundTrip.{entry-back}
 use Rattle.rules.specs.OrderFile.{startWith}
 use Rattle.rules.specs.DrawingFile.{laterIn, entryIn, group, behind, judgeRest, judgeLines}
@@ -105,10 +105,10 @@ abbrev pub firstLine : List ℕ → Found
 firstLine f = lineAt f (linesFrom (nIn f))
 
 abbrev pub secondLine : List ℕ → Found
-secondLine f = lineAt f (linesFrom (nIn f) + 12)
+secondLine f = lineAt f (linesFrom (nIn f) + lineSize)
 
 abbrev pub thirdLine : List ℕ → Found
-thirdLine f = lineAt f (linesFrom (nIn f) + 24)
+thirdLine f = lineAt f (linesFrom (nIn f) + 2 * lineSize)
 
 -- the drawing that it begins
 abbrev pub begunIn : List ℕ → Drawing
@@ -121,7 +121,7 @@ pub record Passes (f : List ℕ) : Type 0 where
   pub first : earlierIn (firstLine f) ≡ 1
   pub second : earlierIn (secondLine f) ≡ 1
   pub third : earlierIn (thirdLine f) ≡ 2
-  pub left : judgeDrawing f ≡ judgeRest (nIn f - 3) (linesEnd (nIn f)) (begunIn f) (linesAt f (lineCount (nIn f) - 3) (linesFrom (nIn f) + 36))
+  pub left : judgeDrawing f ≡ judgeRest (nIn f - 3) (linesEnd (nIn f)) (begunIn f) (linesAt f (lineCount (nIn f) - 3) (linesFrom (nIn f) + 3 * lineSize))
 
 pub file-passes : (f : List ℕ) → fileTests f ≡ good tt → Passes f
 unfolding fileTests
@@ -132,7 +132,7 @@ file-passes f h =
     let x = firstLine f in
     let y = secondLine f in
     let z = thirdLine f in
-    let fs = linesAt f (lineCount n - 3) (linesFrom n + 36) in
+    let fs = linesAt f (lineCount n - 3) (linesFrom n + 3 * lineSize) in
     let a = both (headTests f) _ h in
     let b = both (bodyTests f n) _ (a .1) in
     let t = head-tells f (a .0) in
@@ -151,8 +151,8 @@ file-passes f h =
     }
 
 -- the number that stands for a line's entry reads back, where its earlier point is small
-pub number-back : (l : Found) (p : ℕ) → earlierIn l ≡ p → p < 32768 → entryOf (numberFor (entryIn l)) ≡ record { point = p; cut = entryIn l .cut }
+pub number-back : (l : Found) (p : ℕ) → earlierIn l ≡ p → p < pointLimit → entryOf (numberFor (entryIn l)) ≡ record { point = p; cut = entryIn l .cut }
 number-back l p h small =
-    let low : earlierIn l < 32768 = omega arith in
-    let form : numberFor (entryIn l) ≡ wordOf (entryIn l) = rw (lt-ltb (earlierIn l) 32768 low) in
+    let low : earlierIn l < pointLimit = omega arith in
+    let form : numberFor (entryIn l) ≡ wordOf (entryIn l) = rw (lt-ltb (earlierIn l) pointLimit low) in
     ap entryOf form ∙ entry-back (entryIn l) low ∙ λ i. record { point = h i; cut = entryIn l .cut }

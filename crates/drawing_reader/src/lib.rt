@@ -1,11 +1,20 @@
 // A drawing file's records, read into the table of a drawing. Comparing its bytes with the drawing's, 11, is left to the caller.
 // For `panel`: it asks for a table of zeros.
+use drawing_judging::N_AT;
+use drawing_judging::S_AT;
 use drawing_judging::judge_file;
+use line_records::SECOND;
+use line_records::THIRD;
 use line_records::entry_at;
 use line_records::take_group;
 use links::Added;
 use links::Counts;
 use rules::Answer;
+use rules::DRAWING_SIZE;
+use rules::LINE_SIZE;
+use rules::PLACE_SIZE;
+use tables::LINES;
+use tables::Table;
 use words::broad;
 use words::narrow;
 use words::word_at;
@@ -31,14 +40,14 @@ fn add_group(
     f: &[u8],
     base: usize,
     total: usize,
-    table: &mut [u16; 16384],
+    table: &mut Table,
     c: Counts,
     e: &mut [u16],
 ) -> Added
     requires { ⌜ Groups (now f) base total (arraysIn (now table)) c × (length (now e) ≡ 3072) ⌝ }
     ensures { λ r. ⌜ Grouped (now (f .entry)) base total (arraysIn (now (table .entry))) c (arraysIn (now (table .exit))) r ⌝ }
 {
-    let at = base + 12 * c.lines;
+    let at = base + LINE_SIZE * c.lines;
     let count = take_group(f, at, total - c.lines, narrow(c.k + 1), e);
     let r = adding::add(table, c, &e[..count]);
     let said = r.answer;
@@ -50,12 +59,12 @@ fn add_group(
 }
 
 // Adds the groups of all points that are left, one after another.
-fn add_groups(f: &[u8], base: usize, total: usize, table: &mut [u16; 16384], c: Counts) -> Added
+fn add_groups(f: &[u8], base: usize, total: usize, table: &mut Table, c: Counts) -> Added
     requires { ⌜ Groups (now f) base total (arraysIn (now table)) c ⌝ }
     ensures { λ r. ⌜ AllGrouped (now (f .entry)) base total (arraysIn (now (table .entry))) c (arraysIn (now (table .exit))) r ⌝ }
 {
     let mut counts = c;
-    let mut e = [0u16; 3072];
+    let mut e = [0u16; LINES];
     while counts.k < counts.n {
         let r = add_group(f, base, total, table, counts, &mut e);
         let said = r.answer;
@@ -71,30 +80,23 @@ fn add_groups(f: &[u8], base: usize, total: usize, table: &mut [u16; 16384], c: 
 }
 
 // The drawing of a file whose tests before the groups of points 4 to n have passed.
-fn read_passed(f: &[u8], table: &mut [u16; 16384]) -> Added
+fn read_passed(f: &[u8], table: &mut Table) -> Added
     requires { ⌜ Passes (now f) × (now table ≡ zeros) ⌝ }
     ensures { λ r. ⌜ LinesRead (now (f .entry)) (arraysIn (now (table .exit))) r ⌝ }
 {
-    let n = broad(word_at(f, 2));
-    let s = broad(word_at(f, 4));
-    let base = 10 + 6 * n;
+    let n = broad(word_at(f, N_AT));
+    let s = broad(word_at(f, S_AT));
+    let base = DRAWING_SIZE + PLACE_SIZE * n;
     let a = entry_at(f, base);
-    let b = entry_at(f, base + 12);
-    let c = entry_at(f, base + 24);
-    opening::open_in(table, a, b, c);
-    let opened = Counts {
-        n,
-        s,
-        k: 3,
-        m: 3,
-        lines: 3,
-    };
+    let b = entry_at(f, base + SECOND);
+    let c = entry_at(f, base + THIRD);
+    let opened = opening::open_in(table, n, s, a, b, c);
     add_groups(f, base, 3 * n - 6, table, opened)
 }
 
 // Reads a drawing file into a table of zeros, up to the comparison of its bytes with the drawing's, 11.
 // What the table holds after a refusal is left open.
-pub fn read_lines(f: &[u8], table: &mut [u16; 16384]) -> Added
+pub fn read_lines(f: &[u8], table: &mut Table) -> Added
     requires { ⌜ now table ≡ zeros ⌝ }
     ensures { λ r. ⌜ LinesRead (now (f .entry)) (arraysIn (now (table .exit))) r ⌝ }
 {
@@ -102,13 +104,7 @@ pub fn read_lines(f: &[u8], table: &mut [u16; 16384]) -> Added
     let Answer::Accepted = tests else {
         return Added {
             answer: tests,
-            counts: Counts {
-                n: 0,
-                s: 0,
-                k: 0,
-                m: 0,
-                lines: 0,
-            },
+            counts: links::no_counts(),
         };
     };
     read_passed(f, table)

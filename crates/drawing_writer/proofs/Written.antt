@@ -7,7 +7,7 @@ use lib.ListN.{length, getD, take}
 use Rattle.rules.specs.declared.Line.{Line}
 use Rattle.rules.specs.declared.Place.{Place}
 use Rattle.rules.specs.Basics.{if_then_else_}
-use Rattle.rules.specs.Records.{written, drawingHead, pointPlace, lineShape}
+use Rattle.rules.specs.Records.{written, drawingHead, pointPlace, lineShape, endMark, headSize, placeSize, lineSize}
 use Rattle.rules.specs.DrawingFile.{highest}
 use Rattle.links.specs.declared.Counts.{Counts}
 use Rattle.links.specs.Arrays.{Arrays}
@@ -30,7 +30,7 @@ unfolding lineBytes
 line-stored xs a s e is p x y m h = rw (x, y, m, is, p) at h
 
 -- A line's record has 12 bytes.
-pub length-line : (s : ℕ) (xs : List ℕ) (a : Arrays) (e : ℕ) → length (lineBytes s xs a e) ≡ 12
+pub length-line : (s : ℕ) (xs : List ℕ) (a : Arrays) (e : ℕ) → length (lineBytes s xs a e) ≡ lineSize
 unfolding lineBytes
 length-line s xs a e = refl
 
@@ -42,13 +42,13 @@ point-stored s xs ys i x y h = rw (x, y) at h
 -- The header, the points, the lines and the end mark, one behind the other, are the file.
 pub file-stored : (xs : List ℕ) (a : Arrays) (c : Counts) {n s wide width top height : ℕ} {l₀ l₁ l₂ l₃ l₄ : List ℕ} → n ≡ c .n → s ≡ c .s →
     wide ≡ getD xs 1 0 → width ≡ c .s * wide → top ≡ highest (take (c .k) (a .ys)) → height ≡ c .s * top →
-    Stored l₀ 0 (written drawingHead (n ∷ s ∷ width ∷ height ∷ [])) l₁ → Stored l₁ 10 (several (pointBytes (c .s) xs (a .ys)) (c .k)) l₂ →
-    Stored l₂ (10 + 6 * c .k) (several (lineBytes (c .s) xs a) (c .lines)) l₃ → l₄ ≡ withWord l₃ (10 + 6 * c .k + 12 * c .lines) 0x454E → Stored l₀ 0 (fileBytes xs a c) l₄
+    Stored l₀ 0 (written drawingHead (n ∷ s ∷ width ∷ height ∷ [])) l₁ → Stored l₁ headSize (several (pointBytes (c .s) xs (a .ys)) (c .k)) l₂ →
+    Stored l₂ (headSize + placeSize * c .k) (several (lineBytes (c .s) xs a) (c .lines)) l₃ → l₄ ≡ withWord l₃ (headSize + placeSize * c .k + lineSize * c .lines) endMark → Stored l₀ 0 (fileBytes xs a c) l₄
 unfolding fileBytes
 file-stored xs a c {l₃ = l₃} n s v w u t head points lines end =
-    let p = length-several (pointBytes (c .s) xs (a .ys)) 6 (λ i. refl) (c .k) in
-    let l = length-several (lineBytes (c .s) xs a) 12 (length-line (c .s) xs a) (c .lines) in
+    let p = length-several (pointBytes (c .s) xs (a .ys)) placeSize (λ i. refl) (c .k) in
+    let l = length-several (lineBytes (c .s) xs a) lineSize (length-line (c .s) xs a) (c .lines) in
     behind refl (rw (n, s, w, t, v, u) at head)
     (behind (omega (arith, p)) points
     (behind (omega (arith, l)) lines
-    (word-stored l₃ (10 + 6 * c .k + 12 * c .lines) 0x454E end)))
+    (word-stored l₃ (headSize + placeSize * c .k + lineSize * c .lines) endMark end)))

@@ -8,7 +8,7 @@ use lib.Seq.{getD-take}
 use Rattle.rules.specs.declared.Line.{Line}
 use Rattle.rules.specs.Points.{Drawing, lineAt}
 use Rattle.rules.specs.Ports.{bendPlace}
-use Rattle.rules.specs.Records.{written, pointPlace, lineShape, endShape}
+use Rattle.rules.specs.Records.{written, pointPlace, lineShape, endShape, headSize, placeSize, lineSize}
 use Rattle.rules.specs.DrawingFile.{highest, writePoints, lineWords, writeLines, drawingBytes}
 use Rattle.links.specs.declared.Counts.{Counts}
 use Rattle.links.specs.Arrays.{Arrays}
@@ -57,14 +57,14 @@ lines-are d (l ∷ ls) z =
 -- ---- the length of the file
 
 -- Of any drawing from opening and calls.
-pub length-file : {d : Drawing} → Standing d → length (drawingBytes d) ≡ 12 + 6 * d .k + 12 * length (d .lines)
+pub length-file : {d : Drawing} → Standing d → length (drawingBytes d) ≡ headSize + placeSize * d .k + lineSize * length (d .lines) + 2
 unfolding drawingBytes
 length-file {d} t =
     let z = t .sound .sized in
     let p = writePoints (d .s) (d .xs) (d .ys) in
     let l = writeLines d (d .lines) in
-    let lp : length p ≡ 6 * length (d .xs) = ap length (points-are (d .s) (d .xs) (d .ys) (z .xs ∙ sym (z .ys))) ∙ length-several (pointBytes (d .s) (d .xs) (d .ys)) 6 (λ i. refl) (length (d .xs)) in
-    let ll : length l ≡ 12 * length (d .lines) = ap length (lines-are d (d .lines) _) ∙ length-several (λ e. lineRecord d (lineAt d e)) 12 (λ e. refl) (length (d .lines)) in
+    let lp : length p ≡ placeSize * length (d .xs) = ap length (points-are (d .s) (d .xs) (d .ys) (z .xs ∙ sym (z .ys))) ∙ length-several (pointBytes (d .s) (d .xs) (d .ys)) placeSize (λ i. refl) (length (d .xs)) in
+    let ll : length l ≡ lineSize * length (d .lines) = ap length (lines-are d (d .lines) _) ∙ length-several (λ e. lineRecord d (lineAt d e)) lineSize (λ e. refl) (length (d .lines)) in
     omega (arith, length-append p (l ++ written endShape []), length-append l (written endShape []), z .xs)
 
 -- ---- the arrays of a finished drawing

@@ -11,6 +11,7 @@ use Rattle.links.specs.Arrays.{Arrays}
 use Rattle.stored.specs.Adding.{Holds}
 use Rattle.settling.specs.Bends.{Bendable}
 use Rattle.bends.specs.Lines.{lineIn}
+use Rattle.rules.specs.Records.{headSize, placeSize, lineSize}
 use Rattle.drawing_writer.specs.Lists.{bendAt}
 
 -- the arrays and numbers hold the finished drawing d, and x has its settled x
@@ -35,7 +36,7 @@ pub record PointsReady (xs ys : List ℕ) (s k : ℕ) (buffer : List ℕ) : Type
   pub few : k ≤ 1024
   pub x : (i : ℕ) → i < k → s * getD xs i 0 < 65536
   pub y : (i : ℕ) → i < k → s * getD ys i 0 < 65536
-  pub room : 10 + 6 * k ≤ length buffer
+  pub room : headSize + placeSize * k ≤ length buffer
 
 -- a line's bend is found, and times s it fits
 pub record LineFits (x : List ℕ) (a : Arrays) (s : ℕ) (l : Line) : Type 0 where
@@ -47,10 +48,10 @@ pub record LineFits (x : List ℕ) (a : Arrays) (s : ℕ) (l : Line) : Type 0 wh
 pub record LineReady (x : List ℕ) (a : Arrays) (s e at : ℕ) (buffer : List ℕ) : Type 0 where
   pub line : e < 3072
   pub fits : LineFits x a s (lineIn a e)
-  pub room : at + 12 ≤ length buffer
+  pub room : at + lineSize ≤ length buffer
 
 -- so are the first `count` lines
 pub record LinesReady (x : List ℕ) (a : Arrays) (s count at : ℕ) (buffer : List ℕ) : Type 0 where
   pub few : count ≤ 3072
   pub fits : (e : ℕ) → e < count → LineFits x a s (lineIn a e)
-  pub room : at + 12 * count ≤ length buffer
+  pub room : at + lineSize * count ≤ length buffer

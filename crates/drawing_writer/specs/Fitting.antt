@@ -12,6 +12,7 @@ use Rattle.links.specs.declared.Counts.{Counts}
 use Rattle.links.specs.Arrays.{Arrays}
 use Rattle.promise.specs.Bounds.{width-most, lines-most, place-most, bend-most}
 use Rattle.settling.specs.Bending.{bendable-of}
+use Rattle.rules.specs.Records.{headSize, placeSize, lineSize}
 use Rattle.drawing_writer.specs.Finished.{Finished, Writable, PointsReady, LineFits, LinesReady}
 use Rattle.drawing_writer.specs.Files.{length-file, shows, x-is, y-is, line-is, bend-is, file-is}
 
@@ -47,7 +48,7 @@ module _ {d : Drawing} {x : List ℕ} {a : Arrays} {c : Counts} (h : Finished d 
   y-fits : (i : ℕ) → i < c .k → c .s * getD (a .ys) i 0 < 65536
   y-fits i b = let e = rw (h .holds .stores .k) at b in rw (y-is h i e) (scaled (place i e .1))
 
-  pub points-ready : (buffer : List ℕ) → 10 + 6 * c .k ≤ length buffer → PointsReady x (a .ys) (c .s) (c .k) buffer
+  pub points-ready : (buffer : List ℕ) → headSize + placeSize * c .k ≤ length buffer → PointsReady x (a .ys) (c .s) (c .k) buffer
   points-ready buffer room =
       record {
         long = (h .long, h .holds .sized .ys);
@@ -74,7 +75,7 @@ module _ {d : Drawing} {x : List ℕ} {a : Arrays} {c : Counts} (h : Finished d 
         up = rw (bend-is h e el) (scaled (omega (arith, t .1)));
       }
 
-  pub lines-ready : (at : ℕ) (buffer : List ℕ) → at + 12 * c .lines ≤ length buffer → LinesReady x a (c .s) (c .lines) at buffer
+  pub lines-ready : (at : ℕ) (buffer : List ℕ) → at + lineSize * c .lines ≤ length buffer → LinesReady x a (c .s) (c .lines) at buffer
   lines-ready at buffer room =
       record {
         few = few-lines;
@@ -90,7 +91,7 @@ pub record Ready (x : List ℕ) (a : Arrays) (c : Counts) (buffer : List ℕ) : 
   pub width : c .s * getD x 1 0 < 65536
   pub height : c .s * highest (take (c .k) (a .ys)) < 65536
   pub few : (c .k ≤ 1024) × (c .lines ≤ 3072)
-  pub room : 12 + 6 * c .k + 12 * c .lines ≤ length buffer
+  pub room : headSize + placeSize * c .k + lineSize * c .lines + 2 ≤ length buffer
 
 pub ready : {x : List ℕ} {a : Arrays} {c : Counts} {buffer : List ℕ} → Writable x a c buffer → Ready x a c buffer
 ready {x} {a} {c} {buffer} w =

@@ -2,8 +2,16 @@
 // For `panel`: it asks for a finished drawing and room in the buffer, which are tested there.
 use bends::line_in;
 use links::Counts;
+use rules::DRAWING_MARK;
+use rules::DRAWING_SIZE;
+use rules::END_MARK;
+use rules::LINE_MARK;
+use rules::LINE_SIZE;
+use rules::PLACE_MARK;
+use rules::PLACE_SIZE;
 use settling::bend_of;
 use tables::DLS;
+use tables::POINTS;
 use tables::YS;
 use words::broad;
 use words::narrow;
@@ -15,7 +23,7 @@ ghost use lib.ListN.{length, take};
 ghost use Rattle.rules.specs.Basics.{if_then_else_};
 ghost use Rattle.rules.specs.Points.{Drawing};
 ghost use Rattle.rules.specs.Refusals.{good};
-ghost use Rattle.rules.specs.Records.{written, drawingHead, pointPlace, lineShape};
+ghost use Rattle.rules.specs.Records.{headSize, placeSize, lineSize, written, drawingHead, pointPlace, lineShape};
 ghost use Rattle.rules.specs.DrawingFile.{highest, drawingBytes};
 ghost use Rattle.rules.specs.Output.{filled};
 ghost use Rattle.tables.specs.Tables.{Full, arraysIn};
@@ -42,10 +50,10 @@ fn largest(ys: &[u16], k: usize) -> usize
 
 // The header: 44 48, n, s, width, height.
 fn write_head(out: &mut [u8], n: u16, s: u16, width: u16, height: u16)
-    requires { ⌜ 10 ≤ length (now out) ⌝ }
+    requires { ⌜ headSize ≤ length (now out) ⌝ }
     ensures { λ _. ⌜ Stored (now (out .entry)) 0 (written drawingHead (n ∷ s ∷ width ∷ height ∷ [])) (now (out .exit)) ⌝ }
 {
-    put_word(out, 0, 0x4448);
+    put_word(out, 0, DRAWING_MARK);
     put_word(out, 2, n);
     put_word(out, 4, s);
     put_word(out, 6, width);
@@ -54,24 +62,24 @@ fn write_head(out: &mut [u8], n: u16, s: u16, width: u16, height: u16)
 
 // A point's record: 50 4F, x, y.
 fn write_point(out: &mut [u8], at: usize, x: u16, y: u16)
-    requires { ⌜ at + 6 ≤ length (now out) ⌝ }
+    requires { ⌜ at + placeSize ≤ length (now out) ⌝ }
     ensures { λ _. ⌜ Stored (now (out .entry)) at (written pointPlace (x ∷ y ∷ [])) (now (out .exit)) ⌝ }
 {
-    put_word(out, at, 0x504F);
+    put_word(out, at, PLACE_MARK);
     put_word(out, at + 2, x);
     put_word(out, at + 4, y);
 }
 
 // The records of the first k points, behind the header.
-fn write_points(out: &mut [u8], x: &[u16; 1024], ys: &[u16], s: usize, k: usize)
+fn write_points(out: &mut [u8], x: &[u16; POINTS], ys: &[u16], s: usize, k: usize)
     requires { ⌜ PointsReady (now x) (now ys) s k (now out) ⌝ }
-    ensures { λ _. ⌜ Stored (now (out .entry)) 10 (several (pointBytes s (now (x .entry)) (now (ys .entry))) k) (now (out .exit)) ⌝ }
+    ensures { λ _. ⌜ Stored (now (out .entry)) headSize (several (pointBytes s (now (x .entry)) (now (ys .entry))) k) (now (out .exit)) ⌝ }
 {
     let mut i = 0;
     while i < k {
         let px = narrow(s * broad(x[i]));
         let py = narrow(s * broad(ys[i]));
-        write_point(out, 10 + 6 * i, px, py);
+        write_point(out, DRAWING_SIZE + PLACE_SIZE * i, px, py);
         i += 1;
     }
 }
@@ -85,10 +93,10 @@ fn mark_of(cut: bool) -> u16
 
 // A line's record: 4C 4E, later point, earlier point, bend x, bend y, its mark.
 fn write_numbers(out: &mut [u8], at: usize, later: u16, earlier: u16, x: u16, y: u16, mark: u16)
-    requires { ⌜ at + 12 ≤ length (now out) ⌝ }
+    requires { ⌜ at + lineSize ≤ length (now out) ⌝ }
     ensures { λ _. ⌜ Stored (now (out .entry)) at (written lineShape (later ∷ earlier ∷ x ∷ y ∷ mark ∷ [])) (now (out .exit)) ⌝ }
 {
-    put_word(out, at, 0x4C4E);
+    put_word(out, at, LINE_MARK);
     put_word(out, at + 2, later);
     put_word(out, at + 4, earlier);
     put_word(out, at + 6, x);
@@ -97,7 +105,7 @@ fn write_numbers(out: &mut [u8], at: usize, later: u16, earlier: u16, x: u16, y:
 }
 
 // The record of line e, from what the table holds of it.
-fn write_line(out: &mut [u8], at: usize, x: &[u16; 1024], table: &[u16], s: usize, e: usize)
+fn write_line(out: &mut [u8], at: usize, x: &[u16; POINTS], table: &[u16], s: usize, e: usize)
     requires { ⌜ LineReady (now x) (arraysIn (now table)) s e at (now out) × Full (now table) ⌝ }
     ensures { λ _. ⌜ Stored (now (out .entry)) at (lineBytes s (now (x .entry)) (arraysIn (now (table .entry))) e) (now (out .exit)) ⌝ }
 {
@@ -110,19 +118,19 @@ fn write_line(out: &mut [u8], at: usize, x: &[u16; 1024], table: &[u16], s: usiz
 }
 
 // The records of the first `count` lines, from the place `at` on.
-fn write_lines(out: &mut [u8], at: usize, x: &[u16; 1024], table: &[u16], s: usize, count: usize)
+fn write_lines(out: &mut [u8], at: usize, x: &[u16; POINTS], table: &[u16], s: usize, count: usize)
     requires { ⌜ LinesReady (now x) (arraysIn (now table)) s count at (now out) × Full (now table) ⌝ }
     ensures { λ _. ⌜ Stored (now (out .entry)) at (several (lineBytes s (now (x .entry)) (arraysIn (now (table .entry)))) count) (now (out .exit)) ⌝ }
 {
     let mut e = 0;
     while e < count {
-        write_line(out, at + 12 * e, x, table, s, e);
+        write_line(out, at + LINE_SIZE * e, x, table, s, e);
         e += 1;
     }
 }
 
 // The drawing file of the finished drawing that the table holds, whose x are settled: into the start of the buffer.
-pub fn write_drawing(out: &mut [u8], x: &[u16; 1024], table: &[u16], c: Counts)
+pub fn write_drawing(out: &mut [u8], x: &[u16; POINTS], table: &[u16], c: Counts)
     requires { ⌜ Writable (now x) (arraysIn (now table)) c (now out) × Full (now table) ⌝ }
     ensures { λ _. ⌜
         ((d : Drawing) → Finished d (now (x .entry)) (arraysIn (now (table .entry))) c →
@@ -134,7 +142,7 @@ pub fn write_drawing(out: &mut [u8], x: &[u16; 1024], table: &[u16], c: Counts)
     let height = narrow(s * largest(&table[YS..DLS], c.k));
     write_head(out, narrow(c.n), narrow(s), width, height);
     write_points(out, x, &table[YS..DLS], s, c.k);
-    let points = 6 * c.k;
-    write_lines(out, 10 + points, x, table, s, c.lines);
-    put_word(out, 10 + points + 12 * c.lines, 0x454E);
+    let points = PLACE_SIZE * c.k;
+    write_lines(out, DRAWING_SIZE + points, x, table, s, c.lines);
+    put_word(out, DRAWING_SIZE + points + LINE_SIZE * c.lines, END_MARK);
 }

@@ -7,7 +7,7 @@ use lib.ListN.{length, getD}
 use Rattle.rules.specs.declared.Entry.{Entry}
 use Rattle.rules.specs.Basics.{snoc}
 use Rattle.rules.specs.Refusals.{good}
-use Rattle.rules.specs.Entries.{entryOf, wordOf}
+use Rattle.rules.specs.Entries.{entryOf, wordOf, pointLimit}
 use Rattle.rules.specs.Points.{Drawing}
 use Rattle.rules.specs.Adding.{addEntries, pointsOf}
 use Rattle.rules.specs.OrderFile.{startWith, cutAt}
@@ -19,7 +19,7 @@ use Rattle.exchange.specs.Built.{Built, begun, added}
 
 -- every entry names a point below 32,768, and there are at most 1,024 of them
 pub record Fitting (es : List Entry) : Type 0 where
-  pub fits : (i : ℕ) → i < length es → getD (pointsOf es) i 0 < 32768
+  pub fits : (i : ℕ) → i < length es → getD (pointsOf es) i 0 < pointLimit
   pub few : length es ≤ 1024
 
 -- such entries, written and read
@@ -34,7 +34,7 @@ entries-back (e ∷ es) h =
 pub fitting-second : (es : List Entry) → pointsOf es ≡ 1 ∷ [] → Fitting es
 fitting-second es h = record { fits = λ i b. rw h (go i (omega (arith, length-points es, ap length h))); few = omega (arith, length-points es, ap length h) }
   where
-    go : (i : ℕ) → i < 1 → getD (1 ∷ []) i 0 < 32768
+    go : (i : ℕ) → i < 1 → getD (1 ∷ []) i 0 < pointLimit
     go zero b = omega arith
     go (suc i) b = absurd (omega arith)
 
@@ -42,7 +42,7 @@ fitting-second es h = record { fits = λ i b. rw h (go i (omega (arith, length-p
 pub fitting-third : (es : List Entry) → pointsOf es ≡ 1 ∷ 2 ∷ [] → Fitting es
 fitting-third es h = record { fits = λ i b. rw h (go i (omega (arith, length-points es, ap length h))); few = omega (arith, length-points es, ap length h) }
   where
-    go : (i : ℕ) → i < 2 → getD (1 ∷ 2 ∷ []) i 0 < 32768
+    go : (i : ℕ) → i < 2 → getD (1 ∷ 2 ∷ []) i 0 < pointLimit
     go zero b = omega arith
     go (suc zero) b = omega arith
     go (suc (suc i)) b = absurd (omega arith)

@@ -28,17 +28,17 @@ entryTests owner k i p = do
 pub entry-by : (owner : List ℕ) (k i e p : ℕ) → p ≡ pointIn e → entriesPass owner k i (e ∷ []) ≡ entryTests owner k i p
 entry-by owner k i e p h = rw (h, ← at-point owner (pointIn e))
 
--- 8 of entry i with point q behind the point p, then the rest
-abbrev pub linkFirst : List ℕ → ℕ → ℕ → ℕ → Result (Unit {0}) → Result (Unit {0})
-linkFirst next i p q rest = do
-  refuseIf (not (eqb q (getD next (p - 1) 0))) NoRun i
+-- 8 of entry i with point q, where point v is next, then the rest
+abbrev pub linkFirst : ℕ → ℕ → ℕ → Result (Unit {0}) → Result (Unit {0})
+linkFirst i q v rest = do
+  refuseIf (not (eqb q v)) NoRun i
   rest
 
-pub link-turn : (next es : List ℕ) (i p q : ℕ) → i < length es → p ≡ entryPoint es (i - 1) → q ≡ entryPoint es i →
-    linksPass next i (entryPoint es (i - 1)) (drop i es) ≡ linkFirst next i p q (linksPass next (i + 1) (entryPoint es (i + 1 - 1)) (drop (i + 1) es))
-link-turn next es i p q h hp hq =
+pub link-turn : (next es : List ℕ) (i p q v : ℕ) → i < length es → p ≡ entryPoint es (i - 1) → q ≡ entryPoint es i → v ≡ getD next (p - 1) 0 →
+    linksPass next i (entryPoint es (i - 1)) (drop i es) ≡ linkFirst i q v (linksPass next (i + 1) (entryPoint es (i + 1 - 1)) (drop (i + 1) es))
+link-turn next es i p q v h hp hq hv =
     let back : i + 1 - 1 ≡ i = omega arith in
-    rw (back, drop-cons es i 0 h, ← hp, ← hq, at-point next p, add-one)
+    rw (back, drop-cons es i 0 h, ← hp, ← hq, at-point next p, ← hv, add-one)
 
 -- the loop over the links starts at entry 1
 pub link-start : (next es : List ℕ) → runPasses next es ≡ linksPass next 1 (entryPoint es 0) (drop 1 es)

@@ -18,7 +18,7 @@ pub fn judge_entry(e: u16, owner: &[u16], k: usize, i: usize) -> Answer
     requires { ⌜ (length (now owner) ≡ 1024) × (k ≤ 1024) ⌝ }
     ensures { λ r. ⌜ r ≡ answer (entriesPass (now (owner .entry)) k i (e ∷ [])) ⌝ }
 {
-    let p = broad(point_of(e));
+    let p = point_of(e);
     if p == 0 {
         return Answer::Refused(Refusal::NotPlaced, i);
     }
@@ -54,8 +54,8 @@ fn judge_run(e: &[u16], next: &[u16]) -> Answer
 {
     let mut i = 1;
     while i < e.len() {
-        let before = broad(point_of(e[i - 1]));
-        if point_of(e[i]) != next[before - 1] {
+        let before = point_of(e[i - 1]);
+        if point_of(e[i]) != broad(next[before - 1]) {
             return Answer::Refused(Refusal::NoRun, i);
         }
         i += 1;

@@ -3,15 +3,18 @@ use Prim.Native.Nat.{ℕ, suc, pred, _+_, _<_, _≤_}
 use mathlib.Core.Path.{_≡_}
 use mathlib.Core.List.{List}
 use lib.ListN.{length, getD, take}
-use Rattle.rules.specs.declared.Bend.{Bend}
-use Rattle.rules.specs.declared.Bend.the-variants.{Left, Right, Middle, Straight}
 use Rattle.rules.specs.Entries.{entryOf}
 use Rattle.rules.specs.Points.{Drawing, xOf, ownerOf, w, m, lineAt}
 use Rattle.links.specs.declared.Counts.{Counts}
+use Rattle.links.specs.Codes.{bendCode}
+
+-- what is added to a covered point's distance from its owner, which may lie on either side of it
+abbrev pub gapOffset : ℕ
+gapOffset = 32768
 
 -- next: of a boundary point the next one, of point 2 (the last) 0.
--- gap: of a boundary point its x less the x of the one before it; of a covered point its x less its owner's x, plus 32768.
--- words and later: a line's entry as its 16-bit number, and its later point. bends: where it bends, as a number.
+-- gap: of a boundary point its x less the x of the one before it; of a covered point its x less its owner's x, plus the offset.
+-- words and later: a line's entry as its 16-bit number, and its later point. bends: its bend as a number.
 pub record Arrays : Type 0 where
   pub next : List ℕ
   pub gap : List ℕ
@@ -57,13 +60,6 @@ pub record Sized (a : Arrays) : Type 0 where
 abbrev pub atPoint : List ℕ → ℕ → ℕ
 atPoint l p = getD l (pred p) 0
 
--- a bend as a number: 4096 for a right port, 8192 for a left one, 12288 for a middle one, plus the port's index; 0 for none
-abbrev pub bendCode : Bend → ℕ
-bendCode (Right j) = 4096 + j
-bendCode (Left j) = 8192 + j
-bendCode (Middle j) = 12288 + j
-bendCode Straight = 0
-
 -- the arrays and the numbers store the drawing d
 pub record Stores (d : Drawing) (a : Arrays) (c : Counts) : Type 0 where
   pub n : c .n ≡ d .n
@@ -81,7 +77,7 @@ pub record Stores (d : Drawing) (a : Arrays) (c : Counts) : Type 0 where
   pub last : atPoint (a .next) 2 ≡ 0
   pub step : (i : ℕ) → suc i < Rattle.rules.specs.Points.m d → xOf d (w d (suc i)) ≡ xOf d (w d i) + atPoint (a .gap) (w d (suc i))
   -- covered points by their owners
-  pub hang : (p o : ℕ) → suc p ≤ d .k → ownerOf d (suc p) ≡ suc o → xOf d (suc p) + 32768 ≡ xOf d (suc o) + atPoint (a .gap) (suc p)
+  pub hang : (p o : ℕ) → suc p ≤ d .k → ownerOf d (suc p) ≡ suc o → xOf d (suc p) + gapOffset ≡ xOf d (suc o) + atPoint (a .gap) (suc p)
   -- the lines
   pub later : (e : ℕ) → e < length (d .lines) → getD (a .later) e 0 ≡ lineAt d e .later
   pub entry : (e : ℕ) → e < length (d .lines) → entryOf (getD (a .words) e 0) ≡ record { point = lineAt d e .earlier; cut = lineAt d e .cut }

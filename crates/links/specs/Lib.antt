@@ -1,3 +1,4 @@
+pub mod Codes
 pub mod Arrays
 pub mod Judging
 pub mod Placing

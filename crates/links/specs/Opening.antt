@@ -1,8 +1,10 @@
--- The arrays and numbers of a drawing as opened, with the entries of lines 1-2, 3-1 and 3-2 as 16-bit numbers.
+-- The arrays and numbers of no drawing, and of a drawing as opened, with the entries of lines 1-2, 3-1 and 3-2 as 16-bit numbers.
 use Prim.Native.Nat.{ℕ}
 use mathlib.Core.List.{List}
 use lib.ListN.{replicate, set}
+use Rattle.rules.specs.declared.Bend.the-variants.{Left, Right, Straight}
 use Rattle.links.specs.declared.Counts.{Counts}
+use Rattle.links.specs.Codes.{bendCode}
 use Rattle.links.specs.Arrays.{Arrays}
 use Rattle.links.specs.Storing.{putAt}
 
@@ -29,8 +31,11 @@ openArrays a b c =
       hs = noPoints;
       words = threeLines a b c;
       later = threeLines 2 3 3;
-      bends = threeLines 0 4097 8193;
+      bends = threeLines (bendCode Straight) (bendCode (Right 1)) (bendCode (Left 1));
     }
+
+abbrev pub noCounts : Counts
+noCounts = record { n = 0; s = 0; k = 0; m = 0; lines = 0 }
 
 abbrev pub openCounts : ℕ → ℕ → Counts
 openCounts n s = record { n = n; s = s; k = 3; m = 3; lines = 3 }

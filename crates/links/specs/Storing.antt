@@ -3,16 +3,15 @@ use Prim.Native.Nat.{ℕ, zero, suc, pred, _+_, _-_}
 use mathlib.Core.Bool.{not}
 use mathlib.Core.List.{List}
 use lib.ListN.{length, getD, set}
-use lib.Dec.{eqb}
 use Rattle.rules.specs.declared.Refusal.the-variants.{NoReach}
-use Rattle.rules.specs.Basics.{if_then_else_}
 use Rattle.rules.specs.Refusals.{Result, good, refused, _>>_, refuseIf}
-use Rattle.rules.specs.Adding.{middleOf}
+use Rattle.rules.specs.Adding.{newBend}
 use Rattle.links.specs.declared.Spot.{Spot}
 use Rattle.links.specs.declared.Counts.{Counts}
-use Rattle.links.specs.Arrays.{Arrays, atPoint}
+use Rattle.links.specs.Arrays.{Arrays, atPoint, gapOffset}
 use Rattle.links.specs.Judging.{passes}
 use Rattle.links.specs.Placing.{entryPoint, way, spotOf, changeFrom, allReachFrom, innerCount}
+use Rattle.links.specs.Codes.{bendCode}
 
 -- a list with v at point p
 abbrev pub putAt : List ℕ → ℕ → ℕ → List ℕ
@@ -21,7 +20,7 @@ putAt l p v = set l (pred p) v
 -- the gaps and the owners once the entries 1, .., i are covered by point v
 unfoldable pub coveredGaps : List ℕ → List ℕ → Spot → ℕ → List ℕ
 coveredGaps gap es p zero = gap
-coveredGaps gap es p (suc i) = putAt (coveredGaps gap es p i) (entryPoint es (suc i)) (way gap es (suc i) + p .s1 + 32768 - p .dx)
+coveredGaps gap es p (suc i) = putAt (coveredGaps gap es p i) (entryPoint es (suc i)) (way gap es (suc i) + p .s1 + gapOffset - p .dx)
 
 unfoldable pub coveredOwners : List ℕ → List ℕ → ℕ → ℕ → List ℕ
 coveredOwners owner es v zero = owner
@@ -29,7 +28,7 @@ coveredOwners owner es v (suc i) = putAt (coveredOwners owner es v i) (entryPoin
 
 -- the bend of entry i's line as a number: wl's new right port, wr's new left port, or a middle port, which change to i + 1 at `from`
 abbrev pub codeOf : ℕ → ℕ → ℕ → ℕ → ℕ → ℕ
-codeOf rights lefts last from i = if eqb i 0 then 4096 + rights else if eqb i last then 8192 + lefts else 12288 + middleOf from i
+codeOf rights lefts last from i = bendCode (newBend rights lefts last from i)
 
 -- a list with f 0, .., f (i - 1) from index `at` on
 unfoldable pub filled : (ℕ → ℕ) → List ℕ → ℕ → ℕ → List ℕ

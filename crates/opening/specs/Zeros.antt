@@ -8,11 +8,11 @@ use lib.Seq.{take-at, drop-at}
 use Rattle.links.specs.Arrays.{arraysOf}
 use Rattle.links.specs.Opening.{noPoints, noLines}
 use Rattle.tables.specs.Parts.{part}
-use Rattle.tables.specs.Tables.{size, from, region, arraysIn, Keeps}
+use Rattle.tables.specs.Tables.{size, from, region, arraysIn, Keeps, tableSize}
 
 -- every number is 0
 abbrev pub zeros : List ℕ
-zeros = replicate 16384 0
+zeros = replicate tableSize 0
 
 -- a part of a table of zeros
 part-zeros : (from count rest : ℕ) → part from count (replicate (from + (count + rest)) 0) ≡ replicate count 0
@@ -21,10 +21,10 @@ part-zeros from count rest =
     ∙ ap (take count) (drop-at (replicate from 0) (replicate (count + rest) 0) from (length-replicate from 0) ∙ sym (replicate-append-replicate count rest 0))
     ∙ take-at (replicate count 0) (replicate rest 0) count (length-replicate count 0)
 
-region-zeros : (r : ℕ) → from r + size r ≤ 16384 → region zeros r ≡ replicate (size r) 0
+region-zeros : (r : ℕ) → from r + size r ≤ tableSize → region zeros r ≡ replicate (size r) 0
 region-zeros r h =
-    let e : 16384 ≡ from r + (size r + (16384 - from r - size r)) = omega arith in
-    ap (λ n. region (replicate n 0) r) e ∙ part-zeros (from r) (size r) (16384 - from r - size r)
+    let e : tableSize ≡ from r + (size r + (tableSize - from r - size r)) = omega arith in
+    ap (λ n. region (replicate n 0) r) e ∙ part-zeros (from r) (size r) (tableSize - from r - size r)
 
 pub zeros-keep : Keeps zeros (arraysOf noPoints noPoints noPoints noPoints noPoints noPoints noPoints noLines noLines noLines)
 unfolding arraysIn

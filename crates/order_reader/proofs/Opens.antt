@@ -9,6 +9,7 @@ use Rattle.rules.specs.Entries.{entryOf}
 use Rattle.rules.specs.Points.{Drawing}
 use Rattle.rules.specs.OrderFile.{startWith, readPoints, readOrder}
 use Rattle.links.specs.declared.Added.{Added}
+use Rattle.links.specs.declared.Counts.{Counts}
 use Rattle.links.specs.Arrays.{Arrays}
 use Rattle.links.specs.Judging.{pointIn}
 use Rattle.links.specs.Opening.{openArrays, openCounts}
@@ -45,11 +46,11 @@ module _ {f : List ℕ} {at n : ℕ} {t : List ℕ} (z : Headed f at n t) (s : �
     begun : Begun f (pointsFrom (cursor f at)) a b c next
     begun = subst (StartRead f (pointsFrom (cursor f at))) q h
 
-    -- the arrays as opened
-    module _ (x : Arrays) (opened : x ≡ openArrays a b c) where
-      held : Holds (begin n s a b c) x (openCounts n s)
+    -- the arrays and the numbers as opened
+    module _ (x : Arrays) (k : Counts) (opened : (x ≡ openArrays a b c) × (k ≡ openCounts n s)) where
+      held : Holds (begin n s a b c) x k
       held =
-          rw opened
+          rw (opened .0, opened .1)
           (record {
             standing = standing-start n s (entryOf a .cut) (entryOf b .cut) (entryOf c .cut) (z .low) (z .high);
             sized = sized-open n s (entryOf a .cut) (entryOf b .cut) (entryOf c .cut) a b c;
@@ -58,10 +59,10 @@ module _ {f : List ℕ} {at n : ℕ} {t : List ℕ} (z : Headed f at n t) (s : �
           })
 
       -- the rest can be read, and gives all
-      pub start-going : Going f next x (openCounts n s)
+      pub start-going : Going f next x k
       start-going = record { ready = record { d = begin n s a b c; holds = held }; place = begun .room }
 
-      pub start-gave : (y : Arrays) (v : Added) → RestRead f next (n - 3) x (openCounts n s) y v → Gave (readPoints n s (cursor f at)) y v
+      pub start-gave : (y : Arrays) (v : Added) → RestRead f next (n - 3) x k y v → Gave (readPoints n s (cursor f at)) y v
       start-gave y v g = subst (λ (o : Result Drawing). Gave o y v) (sym (begun .rest n s)) (g (begin n s a b c) held)
 
 -- ---- behind the header

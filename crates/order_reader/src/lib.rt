@@ -14,6 +14,8 @@ use records::read_entries;
 use rules::Answer;
 use rules::Refusal;
 use tables::OWNER;
+use tables::POINTS;
+use tables::Table;
 use tables::YS;
 use words::word_at;
 ghost use mathlib.Core.Path.{_≡_};
@@ -51,14 +53,14 @@ fn judge_long(f: &[u8], from: usize, count: usize, table: &[u16], c: Counts) -> 
 }
 
 // One point more: its record, tested and added as a call adds; its refusals stand at its mark.
-fn read_point(f: &[u8], at: usize, table: &mut [u16; 16384], c: Counts, e: &mut [u16]) -> Step
+fn read_point(f: &[u8], at: usize, table: &mut Table, c: Counts, e: &mut [u16]) -> Step
     requires { ⌜ Going (now f) at (arraysIn (now table)) c × (length (now e) ≡ 1024) ⌝ }
     ensures { λ r. ⌜ PointRead (now (f .entry)) at (arraysIn (now (table .entry))) c (arraysIn (now (table .exit))) r ⌝ }
 {
     match read_entries(f, at) {
         Entries::Refused(r, p) => Step::Refused(r, p),
         Entries::Given { count, from, next } => {
-            if 1024 < count {
+            if POINTS < count {
                 return Step::Refused(judge_long(f, from, count, table, c), at);
             }
             copy_numbers(f, from, count, e);
@@ -79,25 +81,19 @@ fn refuse(r: Refusal, p: usize) -> Added
 {
     Added {
         answer: Answer::Refused(r, p),
-        counts: Counts {
-            n: 0,
-            s: 0,
-            k: 0,
-            m: 0,
-            lines: 0,
-        },
+        counts: links::no_counts(),
     }
 }
 
 // The records of so many points more, then the end.
-fn read_rest(f: &[u8], at: usize, points: usize, table: &mut [u16; 16384], c: Counts) -> Added
+fn read_rest(f: &[u8], at: usize, points: usize, table: &mut Table, c: Counts) -> Added
     requires { ⌜ Going (now f) at (arraysIn (now table)) c ⌝ }
     ensures { λ r. ⌜ RestRead (now (f .entry)) at points (arraysIn (now (table .entry))) c (arraysIn (now (table .exit))) r ⌝ }
 {
     let mut place = at;
     let mut left = points;
     let mut counts = c;
-    let mut e = [0u16; 1024];
+    let mut e = [0u16; POINTS];
     while 0 < left {
         match read_point(f, place, table, counts, &mut e) {
             Step::Refused(r, p) => {
@@ -120,7 +116,7 @@ fn read_rest(f: &[u8], at: usize, points: usize, table: &mut [u16; 16384], c: Co
 }
 
 // Points 1 to n, behind the header of a file with n points and the scale s.
-fn read_points(f: &[u8], at: usize, n: usize, s: usize, table: &mut [u16; 16384]) -> Added
+fn read_points(f: &[u8], at: usize, n: usize, s: usize, table: &mut Table) -> Added
     requires { ⌜ Headed (now f) at n (now table) ⌝ }
     ensures { λ r. ⌜ Gave (readPoints n s (cursor (now (f .entry)) at)) (arraysIn (now (table .exit))) r ⌝ }
 {
@@ -132,14 +128,7 @@ fn read_points(f: &[u8], at: usize, n: usize, s: usize, table: &mut [u16; 16384]
             c,
             at: behind,
         } => {
-            opening::open_in(table, a, b, c);
-            let counts = Counts {
-                n,
-                s,
-                k: 3,
-                m: 3,
-                lines: 3,
-            };
+            let counts = opening::open_in(table, n, s, a, b, c);
             let points = n - 3;
             read_rest(f, behind, points, table, counts)
         }
@@ -147,7 +136,7 @@ fn read_points(f: &[u8], at: usize, n: usize, s: usize, table: &mut [u16; 16384]
 }
 
 // Reads an order file into a table of zeros. After a refusal it holds anything: throw it away.
-pub fn read_order(f: &[u8], table: &mut [u16; 16384]) -> Added
+pub fn read_order(f: &[u8], table: &mut Table) -> Added
     requires { ⌜ now table ≡ zeros ⌝ }
     ensures { λ r. ⌜ Gave (readOrder (now (f .entry))) (arraysIn (now (table .exit))) r ⌝ }
 {

@@ -10,7 +10,7 @@ use Rattle.rules.specs.declared.Refusal.{Refusal}
 use Rattle.rules.specs.declared.Refusal.the-variants.{OutOfRange}
 use Rattle.rules.specs.Basics.{between}
 use Rattle.rules.specs.Refusals.{good, refused, _>>=_}
-use Rattle.rules.specs.Records.{readRecord, orderHead, scaleShape}
+use Rattle.rules.specs.Records.{readRecord, orderHead, scaleShape, scaleMark}
 use Rattle.rules.specs.OrderFile.{givenScale, readScale, readPoints, readOrder}
 use Rattle.words.specs.Bytes.{wordAt}
 use Rattle.records.specs.Ranges.{in-range}
@@ -22,11 +22,11 @@ use Rattle.order_start.specs.Heading.{ScaleRead, HeadRead}
 -- a scale is marked behind the header
 pub record Marked (f : List ℕ) : Type 0 where
   pub room : 6 ≤ length f
-  pub mark : wordAt f 4 ≡ 0x5343
+  pub mark : wordAt f 4 ≡ scaleMark
 
 module _ {f : List ℕ} (k : Marked f) where
   scale-by : readScale (cursor f 4) ≡ givenScale (cursor f 4)
-  scale-by = rw (one-left f 4 (k .room), eq-eqb (wordAt f 4) 0x5343 (k .mark))
+  scale-by = rw (one-left f 4 (k .room), eq-eqb (wordAt f 4) scaleMark (k .mark))
 
   pub bad-scale : (r : Refusal) (p : ℕ) → readRecord scaleShape (cursor f 4) ≡ refused r p → readScale (cursor f 4) ≡ refused r p
   bad-scale r p e = scale-by ∙ rw e
@@ -44,8 +44,8 @@ module _ (f : List ℕ) where
   pub no-scale : length f < 6 → readScale (cursor f 4) ≡ good (record { s = 1; next = cursor f 4 })
   no-scale l = rw (none-left f 4 l)
 
-  pub other-mark : (w : ℕ) → 6 ≤ length f → w ≡ wordAt f 4 → (w ≡ 0x5343 → ⊥) → readScale (cursor f 4) ≡ good (record { s = 1; next = cursor f 4 })
-  other-mark w l q n = rw (one-left f 4 l, ← q, ne-eqb w 0x5343 n)
+  pub other-mark : (w : ℕ) → 6 ≤ length f → w ≡ wordAt f 4 → (w ≡ scaleMark → ⊥) → readScale (cursor f 4) ≡ good (record { s = 1; next = cursor f 4 })
+  other-mark w l q n = rw (one-left f 4 l, ← q, ne-eqb w scaleMark n)
 
   -- ---- the header
 

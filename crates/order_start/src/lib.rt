@@ -6,7 +6,10 @@ use records::Number;
 use records::lies;
 use records::read_entries;
 use records::read_number;
+use rules::NUMBER_SIZE;
+use rules::ORDER_MARK;
 use rules::Refusal;
+use rules::SCALE_MARK;
 use words::broad;
 use words::word_at;
 ghost use mathlib.Core.Path.{_≡_};
@@ -18,6 +21,13 @@ ghost use Rattle.links.specs.Judging.{pointIn};
 ghost use Rattle.records.specs.Cursors.{cursor};
 ghost use Rattle.order_start.specs.Heading.{HeadRead, ScaleRead};
 ghost use Rattle.order_start.specs.Starting.{thirdFrom, secondFrom, pointsFrom, StartRead};
+
+// Where a scale's record stands, where its mark ends, and where it ends.
+const SCALE_AT: usize = NUMBER_SIZE;
+
+const SCALE_MARKED: usize = SCALE_AT + 2;
+
+const SCALE_END: usize = SCALE_AT + NUMBER_SIZE;
 
 // The header and the scale: n, s and the offset behind them.
 pub enum Head {
@@ -36,22 +46,30 @@ fn read_scale(f: &[u8], n: usize) -> Head
     requires { ⌜ 4 ≤ length (now f) ⌝ }
     ensures { λ r. ⌜ ScaleRead (now (f .entry)) n r ⌝ }
 {
-    if f.len() < 6 {
-        return Head::Given { n, s: 1, at: 4 };
+    if f.len() < SCALE_MARKED {
+        return Head::Given {
+            n,
+            s: 1,
+            at: SCALE_AT,
+        };
     }
-    if word_at(f, 4) != 0x5343 {
-        return Head::Given { n, s: 1, at: 4 };
+    if word_at(f, SCALE_AT) != SCALE_MARK {
+        return Head::Given {
+            n,
+            s: 1,
+            at: SCALE_AT,
+        };
     }
-    match read_number(f, 4, 0x5343) {
+    match read_number(f, SCALE_AT, SCALE_MARK) {
         Number::Refused(r, p) => Head::Refused(r, p),
         Number::Given(s) => {
             if !lies(s, 2, 8) {
-                return Head::Refused(Refusal::OutOfRange, 4);
+                return Head::Refused(Refusal::OutOfRange, SCALE_AT);
             }
             Head::Given {
                 n,
                 s: broad(s),
-                at: 8,
+                at: SCALE_END,
             }
         }
     }
@@ -61,7 +79,7 @@ fn read_scale(f: &[u8], n: usize) -> Head
 pub fn read_head(f: &[u8]) -> Head
     ensures { λ r. ⌜ HeadRead (now (f .entry)) r ⌝ }
 {
-    match read_number(f, 0, 0x4844) {
+    match read_number(f, 0, ORDER_MARK) {
         Number::Refused(r, p) => Head::Refused(r, p),
         Number::Given(n) => {
             if !lies(n, 3, 1024) {

@@ -14,6 +14,7 @@ use Rattle.links.specs.Arrays.{Arrays, Stores}
 use Rattle.promise.specs.Bounds.{lines-most}
 use Rattle.exchange.specs.Built.{Whole}
 use Rattle.exchange.specs.Replay.{replayed}
+use Rattle.rules.specs.Records.{endMark}
 use Rattle.order_writer.specs.Pasting.{Pasted, pasted-both, length-after, pasted-start}
 use Rattle.order_writer.specs.Writing.{headWords, pointsWords, orderWords, OrderWritable, OrderWritten}
 use Rattle.order_writer.specs.Grouping.{order-is}
@@ -38,7 +39,7 @@ parts {a = a} {c} h =
       n = omega (arith, t .n, w .reached .high);
       s = omega (arith, t .s, w .reached .scale .1);
       lines = omega (arith, t .lines, lines-most (h .d) (replayed (w .reached .low) (w .reached .high) (w .reached .built) .standing));
-      room = omega (arith, h .room, length-order w t, length-append (headWords (c .n) (c .s)) (points ++ (0x454E ∷ [])), length-append points (0x454E ∷ []));
+      room = omega (arith, h .room, length-order w t, length-append (headWords (c .n) (c .s)) (points ++ (endMark ∷ [])), length-append points (endMark ∷ []));
     }
 
 -- the points' records have room behind the header
@@ -53,7 +54,7 @@ end-room h p q = omega (arith, h .room, p .behind, length-after p, q .behind, le
 
 -- the three, one behind the other, are the order file of every finished drawing that is stored so
 pub order-written : {out : List ℕ} {a : Arrays} {c : Counts} {out′ out″ out‴ : List ℕ} {at end r : ℕ} → OrderWritable out a c → Pasted out 0 (headWords (c .n) (c .s)) out′ at →
-    Pasted out′ at (pointsWords (a .words) (a .later) (c .lines) (c .n) 1 0) out″ end → Pasted out″ end (0x454E ∷ []) out‴ r → (d : Drawing) → Whole d → Stores d a c → OrderWritten d out out‴ r
+    Pasted out′ at (pointsWords (a .words) (a .later) (c .lines) (c .n) 1 0) out″ end → Pasted out″ end (endMark ∷ []) out‴ r → (d : Drawing) → Whole d → Stores d a c → OrderWritten d out out‴ r
 order-written {out} {a} {c} {out‴ = out‴} {r = r} h head points end d w t =
     let all : Pasted out 0 (orderWords (a .words) (a .later) c) out‴ r = pasted-both head (pasted-both points end) in
     let room : 2 * length (orderWords (a .words) (a .later) c) ≤ length out = omega (arith, h .room, length-order (h .whole) (h .stored)) in

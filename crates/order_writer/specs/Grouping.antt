@@ -16,7 +16,7 @@ use Rattle.rules.specs.Basics.{if_then_else_, keep}
 use Rattle.rules.specs.Entries.{entryOf, wordOf}
 use Rattle.rules.specs.Points.{Drawing}
 use Rattle.rules.specs.Adding.{newLines}
-use Rattle.rules.specs.Records.{bytesOf, written, orderHead, scaleShape, pointEntries, endShape}
+use Rattle.rules.specs.Records.{bytesOf, written, orderHead, scaleShape, pointEntries, endShape, orderMark, scaleMark, entriesMark, endMark}
 use Rattle.rules.specs.OrderFile.{entriesOf, orderScale, orderPoints, writeOrder}
 use Rattle.links.specs.declared.Counts.{Counts}
 use Rattle.links.specs.Arrays.{Arrays, Stores}
@@ -158,7 +158,7 @@ module _ (words later : List ℕ) where
       let own : keep (ends p) all ≡ u .own = h p (omega arith) ∙ u .is in
       let more = points-are c (suc p) (from + length (u .own)) lines (u .others) all (omega (arith, u .size)) (u .still) (u .rises) (λ q b. h q (omega arith) ∙ u .behind q (omega arith)) in
       let record-is : bytesOf (pointWords words from (length (u .own))) ≡ written pointEntries (entriesOf p all) =
-      ap₂ (λ (n : ℕ) (ws : List ℕ). bytesOf (0x5054 ∷ n ∷ ws)) (sym (length-map (u .own) wordFor)) (u .numbers) ∙
+      ap₂ (λ (n : ℕ) (ws : List ℕ). bytesOf (entriesMark ∷ n ∷ ws)) (sym (length-map (u .own) wordFor)) (u .numbers) ∙
       ap (λ (l : List Line). written pointEntries (map wordFor l)) (sym own) in
       ap (λ (r : ℕ). bytesOf (pointWords words from r ++ pointsWords words later lines c (suc p) (from + r))) count ∙
       bytes-append (pointWords words from (length (u .own))) _ ∙
@@ -170,7 +170,7 @@ module _ (words later : List ℕ) where
 head-are : (n s : ℕ) (rest : List ℕ) → bytesOf (headWords n s) ++ rest ≡ written orderHead (n ∷ []) ++ (orderScale s ++ rest)
 head-are n s rest = go (eqb s 1)
   where
-    go : (t : Bool) → bytesOf (0x4844 ∷ n ∷ (if t then [] else 0x5343 ∷ s ∷ [])) ++ rest ≡
+    go : (t : Bool) → bytesOf (orderMark ∷ n ∷ (if t then [] else scaleMark ∷ s ∷ [])) ++ rest ≡
         written orderHead (n ∷ []) ++ ((if t then [] else written scaleShape (s ∷ [])) ++ rest)
     go true = refl
     go false = refl
@@ -184,7 +184,7 @@ order-is {d} {a} {c} h t =
     let points = pointsWords (a .words) (a .later) (c .lines) (c .n) 1 0 in
     let points-is : bytesOf points ≡ orderPoints (c .n) 1 (d .lines) =
     points-are (a .words) (a .later) (c .n) 1 0 (c .lines) (d .lines) (d .lines) (omega (arith, t .lines)) stored up (λ q b. refl) in
-    bytes-append (headWords (c .n) (c .s)) (points ++ (0x454E ∷ [])) ∙
-    head-are (c .n) (c .s) (bytesOf (points ++ (0x454E ∷ []))) ∙
-    ap (λ (l : List ℕ). written orderHead (c .n ∷ []) ++ (orderScale (c .s) ++ l)) (bytes-append points (0x454E ∷ []) ∙ ap (λ (l : List ℕ). l ++ written endShape []) points-is) ∙
+    bytes-append (headWords (c .n) (c .s)) (points ++ (endMark ∷ [])) ∙
+    head-are (c .n) (c .s) (bytesOf (points ++ (endMark ∷ []))) ∙
+    ap (λ (l : List ℕ). written orderHead (c .n ∷ []) ++ (orderScale (c .s) ++ l)) (bytes-append points (endMark ∷ []) ∙ ap (λ (l : List ℕ). l ++ written endShape []) points-is) ∙
     ap₂ (λ (n s : ℕ). written orderHead (n ∷ []) ++ (orderScale s ++ (orderPoints n 1 (d .lines) ++ written endShape []))) (t .n) (t .s)

@@ -13,6 +13,7 @@ use Rattle.rules.specs.Output.{filled}
 use Rattle.links.specs.declared.Counts.{Counts}
 use Rattle.links.specs.Arrays.{Arrays, Stores}
 use Rattle.exchange.specs.Built.{Whole}
+use Rattle.rules.specs.Records.{orderMark, scaleMark, entriesMark, endMark}
 
 -- ---- the numbers
 
@@ -32,7 +33,7 @@ entryWords words from (suc c) = again (getD words from 0) ∷ entryWords words (
 
 -- a point's record: mark, count and entries
 abbrev pub pointWords : List ℕ → ℕ → ℕ → List ℕ
-pointWords words from c = 0x5054 ∷ c ∷ entryWords words from c
+pointWords words from c = entriesMark ∷ c ∷ entryWords words from c
 
 -- the records of c points, p, p + 1, .., whose lines begin at `from`, of `lines` in all
 unfoldable pub pointsWords : List ℕ → List ℕ → ℕ → ℕ → ℕ → ℕ → List ℕ
@@ -43,11 +44,11 @@ pointsWords words later lines (suc c) p from =
 
 -- the header, with the scale where it isn't 1
 abbrev pub headWords : ℕ → ℕ → List ℕ
-headWords n s = 0x4844 ∷ n ∷ (if eqb s 1 then [] else 0x5343 ∷ s ∷ [])
+headWords n s = orderMark ∷ n ∷ (if eqb s 1 then [] else scaleMark ∷ s ∷ [])
 
 -- the whole file
 abbrev pub orderWords : List ℕ → List ℕ → Counts → List ℕ
-orderWords words later c = headWords (c .n) (c .s) ++ (pointsWords words later (c .lines) (c .n) 1 0 ++ (0x454E ∷ []))
+orderWords words later c = headWords (c .n) (c .s) ++ (pointsWords words later (c .lines) (c .n) 1 0 ++ (endMark ∷ []))
 
 -- ---- what the writer asks, and what it leaves
 

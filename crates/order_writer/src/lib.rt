@@ -1,6 +1,11 @@
 // The order writer: the order file of a finished drawing, in one pass over its stored lines.
 // For `panel`: it asks for a finished drawing and room in the buffer, which are tested there.
 use links::Counts;
+use rules::END_MARK;
+use rules::ENTRIES_MARK;
+use rules::NUMBER_SIZE;
+use rules::ORDER_MARK;
+use rules::SCALE_MARK;
 use tables::BENDS;
 use tables::LATER;
 use tables::WORDS;
@@ -9,6 +14,7 @@ ghost use Prim.Native.Nat.{_+_, _-_, _*_, _<_, _≤_};
 ghost use mathlib.Core.List.{[], _∷_};
 ghost use lib.ListN.{length};
 ghost use Rattle.rules.specs.Points.{Drawing};
+ghost use Rattle.rules.specs.Records.{endMark};
 ghost use Rattle.rules.specs.OrderFile.{writeOrder};
 ghost use Rattle.links.specs.Arrays.{Stores};
 ghost use Rattle.tables.specs.Tables.{Full, arraysIn};
@@ -69,7 +75,7 @@ fn put_point(out: &mut [u8], at: usize, words: &[u16], from: usize, count: usize
     requires { ⌜ (length (now words) ≡ 3072) × (from + count ≤ 3072) × (at + 4 + 2 * count ≤ length (now out)) ⌝ }
     ensures { λ r. ⌜ Pasted (now (out .entry)) at (pointWords (now (words .entry)) from count) (now (out .exit)) r ⌝ }
 {
-    let place = put_two(out, at, 0x5054, count);
+    let place = put_two(out, at, ENTRIES_MARK, count);
     put_entries(out, place, words, from, count)
 }
 
@@ -102,20 +108,20 @@ fn put_head(out: &mut [u8], n: usize, s: usize) -> usize
     requires { ⌜ (n ≤ 1024) × (s ≤ 8) × (2 * length (headWords n s) ≤ length (now out)) ⌝ }
     ensures { λ r. ⌜ Pasted (now (out .entry)) 0 (headWords n s) (now (out .exit)) r ⌝ }
 {
-    let place = put_two(out, 0, 0x4844, n);
+    let place = put_two(out, 0, ORDER_MARK, n);
     if s == 1 {
         return place;
     }
-    put_two(out, place, 0x5343, s)
+    put_two(out, place, SCALE_MARK, s)
 }
 
 // Writes the end record.
 fn put_end(out: &mut [u8], at: usize) -> usize
     requires { ⌜ at + 1 < length (now out) ⌝ }
-    ensures { λ r. ⌜ Pasted (now (out .entry)) at (0x454E ∷ []) (now (out .exit)) r ⌝ }
+    ensures { λ r. ⌜ Pasted (now (out .entry)) at (endMark ∷ []) (now (out .exit)) r ⌝ }
 {
     let end = at + 2;
-    words::put_word(out, at, 0x454E);
+    words::put_word(out, at, END_MARK);
     end
 }
 
@@ -142,5 +148,5 @@ pub fn order_length(c: Counts) -> usize
     ensures { λ r. ⌜ ((d : Drawing) → Whole d → c .n ≡ d .n → c .s ≡ d .s → r ≡ length (writeOrder d)) ⌝ }
 {
     let plain = 10 * c.n - 6;
-    if c.s == 1 { plain } else { plain + 4 }
+    if c.s == 1 { plain } else { plain + NUMBER_SIZE }
 }

@@ -3,7 +3,12 @@ use drawing::Done;
 use drawing::Drawing;
 use links::Counts;
 use rules::Answer;
+use rules::LONGEST_DRAWING;
 use rules::Refusal;
+use rules::drawing_length;
+use tables::END;
+use tables::POINTS;
+use tables::Table;
 ghost use mathlib.Core.Path.{_≡_};
 ghost use Rattle.rules.specs.Refusals.{good, answer};
 ghost use Rattle.rules.specs.Points.{Drawing as Plan};
@@ -23,22 +28,22 @@ pub enum Written {
 }
 
 // Writes the drawing file of the finished drawing that the table holds.
-fn put_drawing(out: &mut [u8], table: &[u16; 16384], c: Counts) -> Written
+fn put_drawing(out: &mut [u8], table: &Table, c: Counts) -> Written
     requires { ⌜ Ended (arraysIn (now table)) c ⌝ }
     ensures { λ r. ⌜ ((d : Plan) → Whole d → Holds d (arraysIn (now (table .entry))) c → Wrote (now (out .entry)) (good (drawingBytes d)) (now (out .exit)) r) ⌝ }
 {
-    let need = 42 * c.n - 60;
+    let need = drawing_length(c.n);
     if out.len() < need {
         return Written::Refused(Refusal::OutputShort, 0);
     }
-    let mut x = [0u16; 1024];
+    let mut x = [0u16; POINTS];
     settling::settle(&mut x, table, c.k);
     drawing_writer::write_drawing(out, &x, table, c);
     Written::Bytes(need)
 }
 
 // Writes its order file.
-fn put_order(out: &mut [u8], table: &[u16; 16384], c: Counts) -> Written
+fn put_order(out: &mut [u8], table: &Table, c: Counts) -> Written
     requires { ⌜ Ended (arraysIn (now table)) c ⌝ }
     ensures { λ r. ⌜ ((d : Plan) → Whole d → Holds d (arraysIn (now (table .entry))) c → Wrote (now (out .entry)) (good (writeOrder d)) (now (out .exit)) r) ⌝ }
 {
@@ -53,7 +58,7 @@ fn put_order(out: &mut [u8], table: &[u16; 16384], c: Counts) -> Written
 pub fn drawing_of(order: &[u8]) -> Done
     ensures { λ r. ⌜ Gives (readOrder (now (order .entry))) r ⌝ }
 {
-    let mut table = [0u16; 16384];
+    let mut table = [0u16; END];
     let read = order_reader::read_order(order, &mut table);
     let counts = read.counts;
     let answer = read.answer;
@@ -95,7 +100,7 @@ pub fn order_file(d: Drawing, out: &mut [u8]) -> Written
 pub fn draw(order: &[u8], out: &mut [u8]) -> Written
     ensures { λ r. ⌜ Wrote (now (out .entry)) (drawFile (now (order .entry))) (now (out .exit)) r ⌝ }
 {
-    let mut table = [0u16; 16384];
+    let mut table = [0u16; END];
     let given = order_reader::read_order(order, &mut table);
     let c = given.counts;
     let answer = given.answer;
@@ -126,12 +131,12 @@ fn compare(a: &[u8], b: &[u8]) -> Answer
 }
 
 // Compares a file with the drawing file of the finished drawing that the table holds.
-fn compare_drawing(file: &[u8], table: &[u16; 16384], c: Counts) -> Answer
+fn compare_drawing(file: &[u8], table: &Table, c: Counts) -> Answer
     requires { ⌜ Ended (arraysIn (now table)) c ⌝ }
     ensures { λ r. ⌜ ((d : Plan) → Whole d → Holds d (arraysIn (now (table .entry))) c → r ≡ answer (compareBytes 0 (now (file .entry)) (drawingBytes d))) ⌝ }
 {
-    let mut drawn = [0u8; 42948];
-    let need = 42 * c.n - 60;
+    let mut drawn = [0u8; LONGEST_DRAWING];
+    let need = drawing_length(c.n);
     put_drawing(&mut drawn, table, c);
     compare(file, &drawn[..need])
 }
@@ -140,7 +145,7 @@ fn compare_drawing(file: &[u8], table: &[u16; 16384], c: Counts) -> Answer
 pub fn undraw(file: &[u8], out: &mut [u8]) -> Written
     ensures { λ r. ⌜ Wrote (now (out .entry)) (orderBack (now (file .entry))) (now (out .exit)) r ⌝ }
 {
-    let mut table = [0u16; 16384];
+    let mut table = [0u16; END];
     let read = drawing_reader::read_lines(file, &mut table);
     let c = read.counts;
     let answer = read.answer;

@@ -1,6 +1,7 @@
 // Steps 1 to 5 of an adding call, by distances from wl: where the new point goes, and which ports reach the inner points.
 // Every function reads, none stores.
 // For `adding`: they ask for entries that passed the tests, and for numbers that fit.
+use entries::point_of;
 use links::Spot;
 ghost use mathlib.Core.Path.{_≡_};
 ghost use mathlib.Core.Bool.{_||_};
@@ -8,7 +9,6 @@ ghost use Prim.Native.Nat.{suc, _+_, _-_, _/_, _<_, _≤_};
 ghost use lib.ListN.{length};
 ghost use Rattle.rules.specs.Adding.{reaches};
 ghost use Rattle.links.specs.Arrays.{atPoint};
-ghost use Rattle.links.specs.Judging.{pointIn};
 ghost use Rattle.links.specs.Placing.{entryPoint, way, stepOf, spotOf, changeFrom, allReachFrom, innerCount};
 ghost use Rattle.links.specs.Runs.{Within};
 ghost use Rattle.placing.specs.Small.{Small};
@@ -18,13 +18,6 @@ fn broad(x: u16) -> usize
     ensures { λ r. ⌜ (r ≡ x) × (r < 65536) ⌝ }
 {
     x as usize
-}
-
-// The earlier point of an entry.
-fn point_of(e: u16) -> usize
-    ensures { λ r. ⌜ r ≡ pointIn e ⌝ }
-{
-    broad(e & 32767)
 }
 
 // The earlier point of entry i.

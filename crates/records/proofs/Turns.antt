@@ -4,7 +4,8 @@ use mathlib.Core.Path.{_≡_, refl, ap}
 use mathlib.Core.List.{List}
 use native.Mathlib.Omega.{arith}
 use Rattle.rules.specs.Refusals.{good, _>>_}
-use Rattle.records.specs.Marked.{bytesIn, recordTest, recordTests}
+use Rattle.rules.specs.Records.{bytesIn}
+use Rattle.records.specs.Marked.{recordTest, recordTests}
 
 -- the record at hand, then those behind it
 pub records-turn : (f : List ℕ) (mark size left here : ℕ) → 0 < left →

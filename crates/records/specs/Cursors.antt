@@ -13,7 +13,7 @@ use Rattle.rules.specs.declared.Refusal.{Refusal}
 use Rattle.rules.specs.declared.Refusal.the-variants.{FileEnds, WrongMark, ExtraBytes}
 use Rattle.rules.specs.declared.Answer.the-variants.{Accepted, Refused}
 use Rattle.rules.specs.Refusals.{Result, good, refused, answer, _>>_, refuseIf}
-use Rattle.rules.specs.Records.{Shape, plain, Cursor, Found, wordsIn, wordsAt, restOf, readRecord, readEnd, pointEntries, endShape}
+use Rattle.rules.specs.Records.{Shape, plain, Cursor, Found, wordsIn, wordsAt, restOf, readRecord, readEnd, pointEntries, endShape, entriesMark, endMark}
 use Rattle.words.specs.Bytes.{wordAt}
 use Rattle.rules.specs.Answers.{refusing}
 use Rattle.records.specs.Results.{accepted}
@@ -88,28 +88,15 @@ copied f e at i v h b t q =
     let more = words-more i (drop at f) (omega (arith, length-drop at f)) in
     rw (add-one i, take-suc-set e i v b, t, more, one)
 
--- c numbers that are there: how many, and each of them
+-- c numbers that are there
 count-words : (c : ℕ) (l : List ℕ) → 2 * c ≤ length l → length (wordsIn c l) ≡ c
 count-words zero l h = refl
 count-words (suc c) [] h = absurd (omega arith)
 count-words (suc c) (a ∷ []) h = absurd (omega arith)
 count-words (suc c) (a ∷ b ∷ l) h = ap suc (count-words c l (omega arith))
 
-each-word : (c i : ℕ) (l : List ℕ) → i < c → 2 * c ≤ length l → getD (wordsIn c l) i 0 ≡ wordAt l (2 * i)
-each-word zero i l b h = absurd (omega arith)
-each-word (suc c) i [] b h = absurd (omega arith)
-each-word (suc c) i (x ∷ []) b h = absurd (omega arith)
-each-word (suc c) zero (x ∷ y ∷ l) b h = refl
-each-word (suc c) (suc i) (x ∷ y ∷ l) b h =
-    let two : 2 * suc i ≡ suc (suc (2 * i)) = omega arith in
-    rw (two, add-one (suc (suc (2 * i)))) (rw (add-one (2 * i)) at (each-word c i l (omega arith) (omega arith)))
-
-module _ (f : List ℕ) (from c : ℕ) (h : from + 2 * c ≤ length f) where
-  pub words-count : length (wordsIn c (drop from f)) ≡ c
-  words-count = count-words c (drop from f) (omega (arith, length-drop from f))
-
-  pub words-each : (i : ℕ) → i < c → getD (wordsIn c (drop from f)) i 0 ≡ wordAt f (from + 2 * i)
-  words-each i b = each-word c i (drop from f) b (omega (arith, length-drop from f)) ∙ word-behind f from (2 * i)
+pub words-count : (f : List ℕ) (from c : ℕ) → from + 2 * c ≤ length f → length (wordsIn c (drop from f)) ≡ c
+words-count f from c h = count-words c (drop from f) (omega (arith, length-drop from f))
 
 -- ---- a record
 
@@ -152,9 +139,9 @@ module _ (f : List ℕ) (at : ℕ) where
         marked-by (plainShape mark 1) f at m ∙ there f (at + 2) at 1 (omega arith) ∙ rw (one-left f (at + 2) (omega arith), ← q, four)
 
   -- a count, and that many
-  module _ (m : answer (markAt 0x5054 f at) ≡ Accepted) where
+  module _ (m : answer (markAt entriesMark f at) ≡ Accepted) where
     pub no-count : length f < at + 4 → readRecord pointEntries (cursor f at) ≡ refused FileEnds at
-    no-count l = marked-by pointEntries f at m ∙ rw (short f (at + 2) at 1 (mark-there 0x5054 f at m) (omega arith))
+    no-count l = marked-by pointEntries f at m ∙ rw (short f (at + 2) at 1 (mark-there entriesMark f at m) (omega arith))
 
     counted-by : (c : ℕ) → at + 4 ≤ length f → c ≡ wordAt f (at + 2) → readRecord pointEntries (cursor f at) ≡ wordsAt at c (cursor f (at + 4))
     counted-by c l q =
@@ -168,11 +155,11 @@ module _ (f : List ℕ) (at : ℕ) where
     entries-there c l q = counted-by c (omega arith) q ∙ there f (at + 4) at c l
 
   -- nothing: the end record
-  module _ (m : answer (markAt 0x454E f at) ≡ Accepted) where
+  module _ (m : answer (markAt endMark f at) ≡ Accepted) where
     end-by : readRecord endShape (cursor f at) ≡ found f at [] (at + 2)
     end-by =
         let none : at + 2 + 2 * 0 ≡ at + 2 = omega arith in
-        marked-by endShape f at m ∙ there f (at + 2) at 0 (omega (arith, mark-there 0x454E f at m)) ∙ rw none
+        marked-by endShape f at m ∙ there f (at + 2) at 0 (omega (arith, mark-there endMark f at m)) ∙ rw none
 
     pub extra : at + 2 < length f → Refused ExtraBytes (at + 2) ≡ answer (readEnd (cursor f at))
     extra l = rw (end-by, lt-ltb 0 (length (drop (at + 2) f)) (omega (arith, length-drop (at + 2) f)))
@@ -181,5 +168,5 @@ module _ (f : List ℕ) (at : ℕ) where
     ended l = rw (end-by, le-ltb 0 (length (drop (at + 2) f)) (omega (arith, length-drop (at + 2) f)))
 
   -- no end record
-  pub no-end : (x : Refusal) (p : ℕ) → answer (markAt 0x454E f at) ≡ Refused x p → answer (markAt 0x454E f at) ≡ answer (readEnd (cursor f at))
+  pub no-end : (x : Refusal) (p : ℕ) → answer (markAt endMark f at) ≡ Refused x p → answer (markAt endMark f at) ≡ answer (readEnd (cursor f at))
   no-end x p q = q ∙ rw (unmarked endShape f at x p q)

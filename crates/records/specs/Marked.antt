@@ -13,15 +13,11 @@ use Rattle.rules.specs.declared.Refusal.{Refusal}
 use Rattle.rules.specs.declared.Refusal.the-variants.{FileEnds}
 use Rattle.rules.specs.declared.Answer.the-variants.{Accepted, Refused}
 use Rattle.rules.specs.Refusals.{Result, good, refused, answer, _>>_, _>>=_, refuseIf}
-use Rattle.rules.specs.Records.{Found, Several, wordsIn, wordsAt, readRecord, several}
+use Rattle.rules.specs.Records.{Found, Several, wordsIn, wordsAt, readRecord, several, bytesIn}
 use Rattle.words.specs.Bytes.{wordAt}
 use Rattle.rules.specs.Answers.{refusing}
 use Rattle.records.specs.Results.{accepted, answer-then, then-then, then-value, both}
 use Rattle.records.specs.Cursors.{cursor, markAt, plainShape, record-by, mark-there}
-
--- the bytes of a mark and `size` numbers
-abbrev pub bytesIn : ℕ → ℕ
-bytesIn size = 2 + 2 * size
 
 -- "1 if fewer than two bytes are left, 2, then 1 for the rest"
 unfoldable pub recordTest : List ℕ → ℕ → ℕ → ℕ → Result (Unit {0})

@@ -1,5 +1,9 @@
 // Records in the bytes of a file: marks and numbers, as both files have them. The functions ask that the offset lies in the file; the readers above know it.
 use rules::Answer;
+use rules::END_MARK;
+use rules::END_SIZE;
+use rules::ENTRIES_MARK;
+use rules::NUMBER_SIZE;
 use rules::Refusal;
 use words::broad;
 use words::word_at;
@@ -51,7 +55,7 @@ pub fn read_number(f: &[u8], at: usize, mark: u16) -> Number
     if let Answer::Refused(r, p) = marked {
         return Number::Refused(r, p);
     }
-    if f.len() < at + 4 {
+    if f.len() < at + NUMBER_SIZE {
         return Number::Refused(Refusal::FileEnds, at);
     }
     Number::Given(word_at(f, at + 2))
@@ -74,11 +78,11 @@ pub fn read_entries(f: &[u8], at: usize) -> Entries
     requires { ⌜ at ≤ length (now f) ⌝ }
     ensures { λ r. ⌜ EntriesRead (now (f .entry)) at r ⌝ }
 {
-    let marked = mark_at(f, at, 0x5054);
+    let marked = mark_at(f, at, ENTRIES_MARK);
     if let Answer::Refused(r, p) = marked {
         return Entries::Refused(r, p);
     }
-    let from = at + 4;
+    let from = at + NUMBER_SIZE;
     if f.len() < from {
         return Entries::Refused(Refusal::FileEnds, at);
     }
@@ -117,11 +121,11 @@ pub fn read_end(f: &[u8], at: usize) -> Answer
     requires { ⌜ at ≤ length (now f) ⌝ }
     ensures { λ r. ⌜ r ≡ answer (readEnd (cursor (now (f .entry)) at)) ⌝ }
 {
-    let marked = mark_at(f, at, 0x454E);
+    let marked = mark_at(f, at, END_MARK);
     let Answer::Accepted = marked else {
         return marked;
     };
-    let behind = at + 2;
+    let behind = at + END_SIZE;
     if behind < f.len() {
         return Answer::Refused(Refusal::ExtraBytes, behind);
     }

@@ -10,7 +10,7 @@ use Rattle.rules.specs.declared.Entry.{Entry}
 use Rattle.rules.specs.declared.Refusal.the-variants.{OutOfRange, OtherDrawing, Unfinished}
 use Rattle.rules.specs.Basics.{if_then_else_, between}
 use Rattle.rules.specs.Refusals.{Result, good, refused, _>>_, _>>=_, refuseIf, placed}
-use Rattle.rules.specs.Points.{Drawing, W}
+use Rattle.rules.specs.Points.{Drawing, W, fewestPoints, mostPoints}
 use Rattle.rules.specs.Ports.{bendPlace}
 use Rattle.rules.specs.Adding.{addEntries}
 use Rattle.rules.specs.Records.{Found, several, readRecord, readEnd, fromStart, written, drawingHead, pointPlace, lineShape, endShape}
@@ -41,6 +41,13 @@ drawingBytes d =
     written drawingHead (d .n ∷ d .s ∷ d .s * W d ∷ d .s * highest (d .ys) ∷ []) ++
     (writePoints (d .s) (d .xs) (d .ys) ++
     (writeLines d (d .lines) ++ written endShape []))
+
+-- "Size: 42n - 60 bytes", and that of the largest
+abbrev pub drawingLength : ℕ → ℕ
+drawingLength n = 42 * n - 60
+
+abbrev pub longestDrawing : ℕ
+longestDrawing = drawingLength mostPoints
 
 -- 22: "drawing wanted while k < n"
 abbrev pub writeDrawing : Drawing → Result (List ℕ)
@@ -108,7 +115,7 @@ readDrawing bytes = do
   f ← readRecord drawingHead (fromStart bytes)
   let n = getD (f .words) 0 0
   let s = getD (f .words) 1 0
-  refuseIf (not (between 3 1024 n && between 1 8 s)) OutOfRange 0
+  refuseIf (not (between fewestPoints mostPoints n && between 1 8 s)) OutOfRange 0
   ps ← several n pointPlace (f .next)
   ls ← several (3 * n - 6) lineShape (ps .next)
   readEnd (ls .next)

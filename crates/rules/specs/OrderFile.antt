@@ -10,7 +10,7 @@ use Rattle.rules.specs.declared.Refusal.the-variants.{OutOfRange, OtherS
 use Rattle.rules.specs.Basics.{if_then_else_, between, same, keep}
 use Rattle.rules.specs.Refusals.{Result, good, _>>_, _>>=_, refuseIf, placed}
 use Rattle.rules.specs.Entries.{entryOf, wordOf}
-use Rattle.rules.specs.Points.{Drawing, start}
+use Rattle.rules.specs.Points.{Drawing, start, fewestPoints, mostPoints}
 use Rattle.rules.specs.Adding.{addEntries, pointsOf}
 use Rattle.rules.specs.Records.{Cursor, Found, first, readRecord, marked, readEnd, fromStart, written, orderHead, scaleShape, pointEntries, endShape}
 
@@ -74,7 +74,7 @@ readPoints n s at = do
 unfoldable pub readOrder : List ℕ → Result Drawing
 readOrder bytes = do
   f ← readRecord orderHead (fromStart bytes)
-  refuseIf (not (between 3 1024 (first f))) OutOfRange 0
+  refuseIf (not (between fewestPoints mostPoints (first f))) OutOfRange 0
   c ← readScale (f .next)
   readPoints (first f) (c .s) (c .next)
 

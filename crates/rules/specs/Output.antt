@@ -36,5 +36,8 @@ printed (good bytes) = bytes
 printed (refused r p) = refusalLine (number r) p
 
 -- "It judges the first 32,768 bytes of its input as the whole file."
+abbrev pub judgedBytes : ℕ
+judgedBytes = 32768
+
 abbrev pub program : List ℕ → List ℕ
-program input = printed (drawFile (take 32768 input))
+program input = printed (drawFile (take judgedBytes input))

@@ -92,5 +92,11 @@ abbrev pub opening : ℕ → Drawing
 opening n = start n 1 true true true
 
 -- "A drawing is opened for n points, n from 3 to 1,024."
+abbrev pub fewestPoints : ℕ
+fewestPoints = 3
+
+abbrev pub mostPoints : ℕ
+mostPoints = 1024
+
 abbrev pub opened : ℕ → Result Drawing
-opened n = if between 3 1024 n then good (opening n) else refused OutOfRange 0
+opened n = if between fewestPoints mostPoints n then good (opening n) else refused OutOfRange 0

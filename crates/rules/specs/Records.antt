@@ -17,35 +17,69 @@ pub record Shape : Type 0 where
   pub mark : ℕ
   pub size : Size
 
--- ---- the shapes of both files
+-- ---- the marks and shapes of both files
+
+abbrev pub orderMark : ℕ
+orderMark = 0x4844
+
+abbrev pub scaleMark : ℕ
+scaleMark = 0x5343
+
+abbrev pub entriesMark : ℕ
+entriesMark = 0x5054
+
+abbrev pub drawingMark : ℕ
+drawingMark = 0x4448
+
+abbrev pub placeMark : ℕ
+placeMark = 0x504F
+
+abbrev pub lineMark : ℕ
+lineMark = 0x4C4E
+
+abbrev pub endMark : ℕ
+endMark = 0x454E
 
 -- "48 44 and n"
 abbrev pub orderHead : Shape
-orderHead = record { mark = 0x4844; size = plain 1 }
+orderHead = record { mark = orderMark; size = plain 1 }
 
 -- "53 43 and a scale s"
 abbrev pub scaleShape : Shape
-scaleShape = record { mark = 0x5343; size = plain 1 }
+scaleShape = record { mark = scaleMark; size = plain 1 }
 
 -- "point records 50 54, a count c, c entries"
 abbrev pub pointEntries : Shape
-pointEntries = record { mark = 0x5054; size = counted }
+pointEntries = record { mark = entriesMark; size = counted }
 
 -- "45 4E", the end of both files
 abbrev pub endShape : Shape
-endShape = record { mark = 0x454E; size = plain 0 }
+endShape = record { mark = endMark; size = plain 0 }
 
 -- "44 48, n, s, width, height"
 abbrev pub drawingHead : Shape
-drawingHead = record { mark = 0x4448; size = plain 4 }
+drawingHead = record { mark = drawingMark; size = plain 4 }
 
 -- "per point 50 4F, x, y"
 abbrev pub pointPlace : Shape
-pointPlace = record { mark = 0x504F; size = plain 2 }
+pointPlace = record { mark = placeMark; size = plain 2 }
 
 -- "per line 4C 4E, later point, earlier point, bend x, bend y, 1 for cut or 0 for guide"
 abbrev pub lineShape : Shape
-lineShape = record { mark = 0x4C4E; size = plain 5 }
+lineShape = record { mark = lineMark; size = plain 5 }
+
+-- the bytes of a mark and so many numbers: a drawing file's header, a point's place, a line
+abbrev pub bytesIn : ℕ → ℕ
+bytesIn numbers = 2 + 2 * numbers
+
+abbrev pub headSize : ℕ
+headSize = bytesIn 4
+
+abbrev pub placeSize : ℕ
+placeSize = bytesIn 2
+
+abbrev pub lineSize : ℕ
+lineSize = bytesIn 5
 
 -- ---- writing
 

@@ -12,30 +12,30 @@ use Rattle.rules.specs.declared.Entry.{Entry}
 use Rattle.rules.specs.declared.Refusal.the-variants.{WrongMark}
 use Rattle.rules.specs.Basics.{if_then_else_}
 use Rattle.rules.specs.Refusals.{Result, good, _>>=_, _>>_, refuseIf}
-use Rattle.rules.specs.Entries.{entryOf, wordOf}
+use Rattle.rules.specs.Entries.{entryOf, wordOf, pointLimit}
 use Rattle.rules.specs.Records.{Size, plain, counted, Shape, Found, bytesOf, sized, written, wordsIn, wordsAt, first, restOf, readRecord}
 
 -- an entry, written and read
-pub entry-back : (e : Entry) → e .point < 32768 → entryOf (wordOf e) ≡ e
+pub entry-back : (e : Entry) → e .point < pointLimit → entryOf (wordOf e) ≡ e
 entry-back e h = go (e .cut) refl
   where
-    go : (c : Bool) → e .cut ≡ c → entryOf (e .point + (if c then 0 else 32768)) ≡ e
+    go : (c : Bool) → e .cut ≡ c → entryOf (e .point + (if c then 0 else pointLimit)) ≡ e
     go true q =
-        let p : (e .point + 0) % 32768 ≡ e .point = omega arith in
-        let t : not (leb 32768 (e .point + 0)) ≡ e .cut = ap not (lt-leb 32768 (e .point + 0) (omega arith)) ∙ sym q in
+        let p : (e .point + 0) % pointLimit ≡ e .point = omega arith in
+        let t : not (leb pointLimit (e .point + 0)) ≡ e .cut = ap not (lt-leb pointLimit (e .point + 0) (omega arith)) ∙ sym q in
         λ i. record { point = p i; cut = t i }
     go false q =
-        let p : (e .point + 32768) % 32768 ≡ e .point = omega arith in
-        let t : not (leb 32768 (e .point + 32768)) ≡ e .cut = ap not (le-leb 32768 (e .point + 32768) (omega arith)) ∙ sym q in
+        let p : (e .point + pointLimit) % pointLimit ≡ e .point = omega arith in
+        let t : not (leb pointLimit (e .point + pointLimit)) ≡ e .cut = ap not (le-leb pointLimit (e .point + pointLimit) (omega arith)) ∙ sym q in
         λ i. record { point = p i; cut = t i }
 
 -- a 16-bit number, read as an entry and written
 pub word-back : (w : ℕ) → w < 65536 → wordOf (entryOf w) ≡ w
-word-back w h = go (leb 32768 w) refl
+word-back w h = go (leb pointLimit w) refl
   where
-    go : (c : Bool) → leb 32768 w ≡ c → w % 32768 + (if not c then 0 else 32768) ≡ w
-    go true q = let k = leb-true 32768 w q in omega arith
-    go false q = let k = leb-false 32768 w q in omega arith
+    go : (c : Bool) → leb pointLimit w ≡ c → w % pointLimit + (if not c then 0 else pointLimit) ≡ w
+    go true q = let k = leb-true pointLimit w q in omega arith
+    go false q = let k = leb-false pointLimit w q in omega arith
 
 -- numbers have two bytes each
 pub length-bytes : (ws : List ℕ) → length (bytesOf ws) ≡ 2 * length ws

@@ -1,7 +1,53 @@
 // The enums and structs that every crate shares, under document 01's names.
 // What they mean is in specs/: document 01 as definitions.
 ghost use mathlib.Core.Path.{_≡_};
+ghost use Prim.Native.Nat.{_≤_};
+ghost use Rattle.rules.specs.Points.{fewestPoints, mostPoints};
 ghost use Rattle.rules.specs.Refusals.{number};
+ghost use Rattle.rules.specs.DrawingFile.{drawingLength};
+
+// "Every record begins with a two-byte mark." Those of an order file, those of a drawing file, and the end of both.
+pub const ORDER_MARK: u16 = 0x4844;
+
+pub const SCALE_MARK: u16 = 0x5343;
+
+pub const ENTRIES_MARK: u16 = 0x5054;
+
+pub const DRAWING_MARK: u16 = 0x4448;
+
+pub const PLACE_MARK: u16 = 0x504F;
+
+pub const LINE_MARK: u16 = 0x4C4E;
+
+pub const END_MARK: u16 = 0x454E;
+
+// How many numbers stand behind the mark: n, s, width, height; x, y; later point, earlier point, bend x, bend y, how it is cut.
+pub const DRAWING_NUMBERS: usize = 4;
+
+pub const PLACE_NUMBERS: usize = 2;
+
+pub const LINE_NUMBERS: usize = 5;
+
+// How many bytes a record has: a mark, a mark and a number, or a mark and those numbers.
+pub const END_SIZE: usize = 2;
+
+pub const NUMBER_SIZE: usize = 4;
+
+pub const DRAWING_SIZE: usize = 2 + 2 * DRAWING_NUMBERS;
+
+pub const PLACE_SIZE: usize = 2 + 2 * PLACE_NUMBERS;
+
+pub const LINE_SIZE: usize = 2 + 2 * LINE_NUMBERS;
+
+// "n from 3 to 1,024"
+pub const FEWEST_POINTS: usize = 3;
+
+pub const MOST_POINTS: usize = 1024;
+
+// The largest files: 10,238 and 42,948 bytes.
+pub const LONGEST_ORDER: usize = 10 * MOST_POINTS - 2;
+
+pub const LONGEST_DRAWING: usize = 42 * MOST_POINTS - 60;
 
 // "Refused because of the input", then "Refused because of the state", in the order of their numbers.
 pub enum Refusal {
@@ -80,4 +126,12 @@ pub fn refusal_number(r: Refusal) -> u16
         Refusal::OutputShort => 24,
         Refusal::NoReach => 25,
     }
+}
+
+// How many bytes the drawing file of n points has: "42n - 60".
+pub fn drawing_length(n: usize) -> usize
+    requires { ⌜ (fewestPoints ≤ n) × (n ≤ mostPoints) ⌝ }
+    ensures { λ r. ⌜ r ≡ drawingLength n ⌝ }
+{
+    42 * n - 60
 }

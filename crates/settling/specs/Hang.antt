@@ -3,16 +3,17 @@ use Prim.Native.Nat.{ℕ, zero, suc, _+_, _-_, _<_, _≤_}
 use mathlib.Core.Path.{_≡_, refl}
 use mathlib.Core.List.{List}
 use lib.ListN.{length, getD, set, length-set}
+use Rattle.links.specs.Arrays.{gapOffset}
 
 -- the x with that of the point at index p, by its owner; 0 is nobody
 abbrev pub hangBy : ℕ → List ℕ → ℕ → List ℕ → List ℕ
 hangBy zero gap p x = x
-hangBy (suc o) gap p x = set x p (getD x o 0 + getD gap p 0 - 32768)
+hangBy (suc o) gap p x = set x p (getD x o 0 + getD gap p 0 - gapOffset)
 
 -- its owner stands in the arrays, and its x is no less than 0 and fits 16 bits
 abbrev pub HangsBy : ℕ → List ℕ → ℕ → List ℕ → Type 0
 HangsBy zero gap p x = Unit {0}
-HangsBy (suc o) gap p x = (o < 1024) × (32768 ≤ getD x o 0 + getD gap p 0) × (getD x o 0 + getD gap p 0 < 98304)
+HangsBy (suc o) gap p x = (o < 1024) × (gapOffset ≤ getD x o 0 + getD gap p 0) × (getD x o 0 + getD gap p 0 < gapOffset + 65536)
 
 -- the x once the points at indices p - 1, .., 0 are done
 unfoldable pub hung : List ℕ → List ℕ → ℕ → List ℕ → List ℕ
@@ -30,10 +31,10 @@ module _ {o : ℕ} (gap : List ℕ) (p : ℕ) (x : List ℕ) where
 
   module _ {q : ℕ} (e : o ≡ suc q) where
     -- The point at index q owns it.
-    pub hang-owned : hangBy o gap p x ≡ set x p (getD x q 0 + getD gap p 0 - 32768)
+    pub hang-owned : hangBy o gap p x ≡ set x p (getD x q 0 + getD gap p 0 - gapOffset)
     hang-owned = rw e
 
-    pub hangs-owned : HangsBy o gap p x → (q < 1024) × (32768 ≤ getD x q 0 + getD gap p 0) × (getD x q 0 + getD gap p 0 < 98304)
+    pub hangs-owned : HangsBy o gap p x → (q < 1024) × (gapOffset ≤ getD x q 0 + getD gap p 0) × (getD x q 0 + getD gap p 0 < gapOffset + 65536)
     hangs-owned h = rw e at h
 
 -- No point is left.

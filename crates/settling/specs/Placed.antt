@@ -7,7 +7,7 @@ use lib.ListN.{length, take}
 use Rattle.rules.specs.Points.{Drawing, xOf, ownerOf, w, m}
 use Rattle.promise.specs.Sound.{Sound}
 use Rattle.links.specs.declared.Counts.{Counts}
-use Rattle.links.specs.Arrays.{Arrays, Stores, atPoint}
+use Rattle.links.specs.Arrays.{Arrays, Stores, atPoint, gapOffset}
 
 -- the links, gaps and owners of the `count` points of a drawing: the parts of `Stores` that say where its points lie
 pub record Placed (d : Drawing) (a : Arrays) (count : ℕ) : Type 0 where
@@ -16,7 +16,7 @@ pub record Placed (d : Drawing) (a : Arrays) (count : ℕ) : Type 0 where
   pub link : (i : ℕ) → suc i < m d → atPoint (a .next) (w d i) ≡ w d (suc i)
   pub last : atPoint (a .next) 2 ≡ 0
   pub step : (i : ℕ) → suc i < m d → xOf d (w d (suc i)) ≡ xOf d (w d i) + atPoint (a .gap) (w d (suc i))
-  pub hang : (p o : ℕ) → suc p ≤ d .k → ownerOf d (suc p) ≡ suc o → xOf d (suc p) + 32768 ≡ xOf d (suc o) + atPoint (a .gap) (suc p)
+  pub hang : (p o : ℕ) → suc p ≤ d .k → ownerOf d (suc p) ≡ suc o → xOf d (suc p) + gapOffset ≡ xOf d (suc o) + atPoint (a .gap) (suc p)
 
 -- The arrays that store a drawing have them, for the number of its points.
 pub placed-at : {d : Drawing} {a : Arrays} {c : Counts} {count : ℕ} → count ≡ d .k → Stores d a c → Placed d a count

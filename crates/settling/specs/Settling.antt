@@ -15,7 +15,7 @@ use Rattle.promise.specs.Sound.{Sound}
 use Rattle.promise.specs.Climb.{climb-root}
 use Rattle.promise.specs.Index.{index-at, index-le}
 use Rattle.promise.specs.Columns.{w-suc, w-placed, index-w}
-use Rattle.links.specs.Arrays.{Arrays, atPoint}
+use Rattle.links.specs.Arrays.{Arrays, atPoint, gapOffset}
 use Rattle.settling.specs.Walk.{walked, firstPass, Walks, walked-past, walks-past, walked-go, go-walks}
 use Rattle.settling.specs.Hang.{hangBy, HangsBy, hung, Hangs}
 use Rattle.settling.specs.Placed.{Placed, Settleable, Settled}
@@ -187,8 +187,8 @@ module _ {d : Drawing} (s : Sound d) {a : Arrays} {k : ℕ} (h : Placed d a k) (
   hang-next (suc o) p x pk e u =
       let later = owner-later s p o pk e in
       let there : getD x o 0 ≡ getD (d .xs) o 0 = u .right o (later .1) (later .0) in
-      let way : getD (d .xs) p 0 + 32768 ≡ getD (d .xs) o 0 + getD (a .gap) p 0 = h .hang p o pk e in
-      let v = getD x o 0 + getD (a .gap) p 0 - 32768 in
+      let way : getD (d .xs) p 0 + gapOffset ≡ getD (d .xs) o 0 + getD (a .gap) p 0 = h .hang p o pk e in
+      let v = getD x o 0 + getD (a .gap) p 0 - gapOffset in
       record {
         hangs = (omega (arith, kept, later), omega arith, omega (arith, x-fits s p pk kept));
         down = record {

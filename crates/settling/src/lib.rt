@@ -1,5 +1,6 @@
 // The x of every placed point, from links and gaps, and the place where a line bends.
 // For the crates above: it asks for the table of a drawing, which they have.
+use links::GAP_OFFSET;
 use rules::Bend;
 use rules::Place;
 use tables::DLS;
@@ -8,6 +9,7 @@ use tables::GAP;
 use tables::HS;
 use tables::NEXT;
 use tables::OWNER;
+use tables::POINTS;
 use tables::YS;
 use words::broad;
 use words::narrow;
@@ -22,7 +24,7 @@ ghost use Rattle.settling.specs.Placed.{Settleable, Settled};
 ghost use Rattle.settling.specs.Bends.{Bendable, bendIn};
 
 // The first pass: boundary points along the links from point 1, which lies at 0.
-fn walk(x: &mut [u16; 1024], next: &[u16], gap: &[u16], k: usize)
+fn walk(x: &mut [u16; POINTS], next: &[u16], gap: &[u16], k: usize)
     requires { ⌜ (length (now x) ≡ 1024) × (length (now next) ≡ 1024) × (length (now gap) ≡ 1024) × Walks (now next) (now gap) k (getD (now next) 0 0) 0 ⌝ }
     ensures { λ _. ⌜ now (x .exit) ≡ firstPass (now (next .entry)) (now (gap .entry)) k (now (x .entry)) ⌝ }
 {
@@ -44,7 +46,7 @@ fn walk(x: &mut [u16; 1024], next: &[u16], gap: &[u16], k: usize)
 }
 
 // One covered point, at index p: its x from its owner's. Of a boundary point nothing changes.
-fn hang_one(x: &mut [u16; 1024], gap: &[u16], owner: &[u16], p: usize)
+fn hang_one(x: &mut [u16; POINTS], gap: &[u16], owner: &[u16], p: usize)
     requires { ⌜ (length (now x) ≡ 1024) × (length (now gap) ≡ 1024) × (length (now owner) ≡ 1024) × (p < 1024) × HangsBy (getD (now owner) p 0) (now gap) p (now x) ⌝ }
     ensures { λ _. ⌜ now (x .exit) ≡ hangBy (getD (now (owner .entry)) p 0) (now (gap .entry)) p (now (x .entry)) ⌝ }
 {
@@ -53,11 +55,11 @@ fn hang_one(x: &mut [u16; 1024], gap: &[u16], owner: &[u16], p: usize)
         return;
     }
     let sum = broad(x[o - 1]) + broad(gap[p]);
-    x[p] = narrow(sum - 32768);
+    x[p] = narrow(sum - GAP_OFFSET);
 }
 
 // The second pass: covered points from point k down to point 1, each after its owner.
-fn hang(x: &mut [u16; 1024], gap: &[u16], owner: &[u16], k: usize)
+fn hang(x: &mut [u16; POINTS], gap: &[u16], owner: &[u16], k: usize)
     requires { ⌜ (length (now x) ≡ 1024) × (length (now gap) ≡ 1024) × (length (now owner) ≡ 1024) × (k ≤ 1024) × Hangs (now gap) (now owner) k (now x) ⌝ }
     ensures { λ _. ⌜ now (x .exit) ≡ hung (now (gap .entry)) (now (owner .entry)) k (now (x .entry)) ⌝ }
 {
@@ -69,7 +71,7 @@ fn hang(x: &mut [u16; 1024], gap: &[u16], owner: &[u16], k: usize)
 }
 
 // The x of every placed point.
-pub fn settle(x: &mut [u16; 1024], table: &[u16], k: usize)
+pub fn settle(x: &mut [u16; POINTS], table: &[u16], k: usize)
     requires { ⌜ Settleable (now x) (arraysIn (now table)) k × Full (now table) ⌝ }
     ensures { λ _. ⌜ Settled (now (x .exit)) (arraysIn (now (table .entry))) k ⌝ }
 {
@@ -111,7 +113,7 @@ fn middle_port(x: u16, y: u16, h: u16, i: u16) -> Place
 }
 
 // Where a line bends, from the places of now.
-pub fn bend_of(x: &[u16; 1024], table: &[u16], later: usize, earlier: usize, b: Bend) -> Place
+pub fn bend_of(x: &[u16; POINTS], table: &[u16], later: usize, earlier: usize, b: Bend) -> Place
     requires { ⌜ Bendable (now x) (arraysIn (now table)) later earlier b × Full (now table) ⌝ }
     ensures { λ r. ⌜ r ≡ bendIn (now (x .entry)) (arraysIn (now (table .entry))) later earlier b ⌝ }
 {

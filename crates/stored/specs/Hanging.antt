@@ -16,7 +16,7 @@ use Rattle.net.specs.Amounts.{moves}
 use Rattle.net.specs.Frame.{point-in}
 use Rattle.links.specs.declared.Spot.{Spot}
 use Rattle.links.specs.declared.Counts.{Counts}
-use Rattle.links.specs.Arrays.{Arrays, atPoint}
+use Rattle.links.specs.Arrays.{Arrays, atPoint, gapOffset}
 use Rattle.links.specs.Placing.{entryPoint, innerCount, way}
 use Rattle.links.specs.Storing.{withPoint}
 use Rattle.promise.specs.Nets.{netOf}
@@ -39,7 +39,7 @@ module _ {d : Drawing} {a : Arrays} {c : Counts} {es : List ℕ} {l r : ℕ} {p 
       rw (e, t) (omega (arith, way-x i (omega arith), h .stores .step (l + i) (omega (arith, h .run .rm))))
 
   -- The new point is not far to the right.
-  dx-small : p .dx ≤ 32768
+  dx-small : p .dx ≤ gapOffset
   dx-small =
       let b : pred (w d r) < d .k = omega (arith, w-low h r (h .run .rm)) in
       omega (
@@ -54,7 +54,7 @@ module _ {d : Drawing} {a : Arrays} {c : Counts} {es : List ℕ} {l r : ℕ} {p 
       )
 
   -- A covered entry has the gap to the new point.
-  gap-inner : (q : ℕ) (t : Inner es l r (suc q)) → q < d .k → atPoint (withPoint a c es p from .gap) (suc q) ≡ way (a .gap) es (t .j) + p .s1 + 32768 - p .dx
+  gap-inner : (q : ℕ) (t : Inner es l r (suc q)) → q < d .k → atPoint (withPoint a c es p from .gap) (suc q) ≡ way (a .gap) es (t .j) + p .s1 + gapOffset - p .dx
   gap-inner q t b =
       let at : suc q ≡ w d (l + t .j) = t .entry ∙ entry-w h (t .j) (omega (arith, t .high)) in
       let n : w d (l + t .j) ≢ w d r = w-differ h (l + t .j) r (omega (arith, t .high, h .run .rm)) (h .run .rm) (omega (arith, t .high)) in
@@ -63,7 +63,7 @@ module _ {d : Drawing} {a : Arrays} {c : Counts} {es : List ℕ} {l r : ℕ} {p 
       gaps-in es (c .k) (innerCount es) (h .within) (inner-in h) (a .gap) p (omega (arith, h .stores .k, h .sized .gap, h .room)) (h .distinct) (t .j) (t .low) (t .last)
 
   -- It hangs on the new point.
-  hang-new : (q : ℕ) (t : Inner es l r (suc q)) → q < d .k → xOf (after d es l r) (suc q) + 32768 ≡ xOf (after d es l r) (suc (d .k)) + atPoint (withPoint a c es p from .gap) (suc q)
+  hang-new : (q : ℕ) (t : Inner es l r (suc q)) → q < d .k → xOf (after d es l r) (suc q) + gapOffset ≡ xOf (after d es l r) (suc (d .k)) + atPoint (withPoint a c es p from .gap) (suc q)
   hang-new q t b =
       let at : suc q ≡ w d (l + t .j) = t .entry ∙ entry-w h (t .j) (omega (arith, t .high)) in
       omega (
@@ -103,7 +103,7 @@ module _ {d : Drawing} {a : Arrays} {c : Counts} {es : List ℕ} {l r : ℕ} {p 
         (λ j z jb t. let s : l + j < r = omega (arith, size h, h .run .lr) in off-boundary (l + j) (omega (arith, h .run .rm)) (t ∙ entry-w h j (omega arith)))
 
     -- It moved with its owner, so it hangs as before.
-    hang-old : xOf (after d es l r) (suc q) + 32768 ≡ xOf (after d es l r) (suc o) + atPoint (withPoint a c es p from .gap) (suc q)
+    hang-old : xOf (after d es l r) (suc q) + gapOffset ≡ xOf (after d es l r) (suc o) + atPoint (withPoint a c es p from .gap) (suc q)
     hang-old =
         let t = owner-column in
         omega (
@@ -123,7 +123,7 @@ module _ {d : Drawing} {a : Arrays} {c : Counts} {es : List ℕ} {l r : ℕ} {p 
 
   -- Every covered point lies its gap, less 32,768, to the right of its owner.
   pub hang-kept : (q o : ℕ) → suc q ≤ after d es l r .k → ownerOf (after d es l r) (suc q) ≡ suc o →
-      xOf (after d es l r) (suc q) + 32768 ≡ xOf (after d es l r) (suc o) + atPoint (withPoint a c es p from .gap) (suc q)
+      xOf (after d es l r) (suc q) + gapOffset ≡ xOf (after d es l r) (suc o) + atPoint (withPoint a c es p from .gap) (suc q)
   hang-kept q o b e =
       elim (ℕ-discrete q (d .k)) [
         | yes t ↦ absurd (omega (arith, owner-after q, ap (λ (v : ℕ). getD (newOwners d l r) v 0) t, taking h .top, e))
@@ -131,7 +131,7 @@ module _ {d : Drawing} {a : Arrays} {c : Counts} {es : List ℕ} {l r : ℕ} {p 
       ]
     where
       go : q < d .k → (t : Bool) → inside l r (d .boundary) (suc q) ≡ t →
-          xOf (after d es l r) (suc q) + 32768 ≡ xOf (after d es l r) (suc o) + atPoint (withPoint a c es p from .gap) (suc q)
+          xOf (after d es l r) (suc q) + gapOffset ≡ xOf (after d es l r) (suc o) + atPoint (withPoint a c es p from .gap) (suc q)
       go qk true i =
           let s : o ≡ d .k = omega (arith, owner-after q, taking h .taken q i, e) in
           rw s (hang-new q (inner-entry h q i) qk)

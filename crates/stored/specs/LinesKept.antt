@@ -18,7 +18,8 @@ use Rattle.rules.specs.Entries.{entryOf}
 use Rattle.rules.specs.Adding.{pointsOf, newLines, newBend, middleOf, D}
 use Rattle.links.specs.declared.Spot.{Spot}
 use Rattle.links.specs.declared.Counts.{Counts}
-use Rattle.links.specs.Arrays.{Arrays, atPoint, bendCode}
+use Rattle.links.specs.Codes.{bendCode}
+use Rattle.links.specs.Arrays.{Arrays, atPoint}
 use Rattle.links.specs.Placing.{entryPoint}
 use Rattle.links.specs.Storing.{codeOf, filled, withPoint}
 use Rattle.promise.specs.Next.{next}
@@ -43,15 +44,6 @@ getD-new : (new : ℕ) (f : ℕ → Bend) (q : ℕ) (es : List ℕ) (i : ℕ) (z
 getD-new new f q [] i z h = absurd (not-suc-le-zero h)
 getD-new new f q (e ∷ es) zero z h = rw (add-zero q)
 getD-new new f q (e ∷ es) (suc i) z h = rw (add-suc, ← suc-add) (getD-new new f (suc q) es i z (le-of-suc-le-suc h))
-
--- The number of a new line's bend is what the code stores.
-code-bend : (a b last from i : ℕ) → codeOf a b last from i ≡ bendCode (newBend a b last from i)
-code-bend a b last from i = go (eqb i 0) (eqb i last)
-  where
-    go : (s t : Bool) → (if s then 4096 + a else if t then 8192 + b else 12288 + middleOf from i) ≡ bendCode (if s then Right a else if t then Left b else Middle (middleOf from i))
-    go true t = refl
-    go false true = refl
-    go false false = refl
 
 -- the bends of the entries' lines
 abbrev newBends : Drawing → List ℕ → ℕ → ℕ → ℕ → Bend
@@ -151,7 +143,6 @@ module _ {d : Drawing} {a : Arrays} {c : Counts} {es : List ℕ} {l r : ℕ} {p 
         first-at (a .dls) (d .dls) (d .k) (pred (w d r)) (h .stores .dls) (omega arith),
         h .spotted .change,
       )
-      (code-bend (suc (drOf d (w d l))) (suc (dlOf d (w d r))) (length es - 1) (changeOf d (map entryOf es) l r) i)
 
   -- The bends are the next drawing's.
   pub bend-kept : (e : ℕ) → e < length (after d es l r .lines) → getD (withPoint a c es p from .bends) e 0 ≡ bendCode (lineAt (after d es l r) e .bend)

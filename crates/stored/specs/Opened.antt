@@ -6,7 +6,8 @@ use native.Mathlib.Omega.{arith}
 use lib.ListN.{getD}
 use Rattle.rules.specs.Entries.{entryOf}
 use Rattle.rules.specs.Points.{Drawing, xOf, ownerOf, w, lineAt, start}
-use Rattle.links.specs.Arrays.{Sized, Stores, atPoint, bendCode}
+use Rattle.links.specs.Codes.{bendCode}
+use Rattle.links.specs.Arrays.{Sized, Stores, atPoint, gapOffset}
 use Rattle.links.specs.Opening.{openArrays, openCounts}
 
 module _ (n s : ℕ) (c1 c2 c3 : Bool) (a b c : ℕ) where
@@ -30,7 +31,7 @@ module _ (n s : ℕ) (c1 c2 c3 : Bool) (a b c : ℕ) where
     step (suc zero) h = refl
     step (suc (suc i)) h = absurd (omega arith)
 
-    hang : (p o : ℕ) → suc p ≤ 3 → ownerOf d (suc p) ≡ suc o → xOf d (suc p) + 32768 ≡ xOf d (suc o) + atPoint (openArrays a b c .gap) (suc p)
+    hang : (p o : ℕ) → suc p ≤ 3 → ownerOf d (suc p) ≡ suc o → xOf d (suc p) + gapOffset ≡ xOf d (suc o) + atPoint (openArrays a b c .gap) (suc p)
     hang zero o h q = absurd (omega (arith, q))
     hang (suc zero) o h q = absurd (omega (arith, q))
     hang (suc (suc zero)) o h q = absurd (omega (arith, q))

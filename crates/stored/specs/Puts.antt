@@ -8,7 +8,7 @@ use native.Mathlib.Decide.{ℕ-discrete}
 use lib.ListN.{length, getD, length-set}
 use lib.Seq.{getD-set-same, getD-set-other}
 use Rattle.links.specs.declared.Spot.{Spot}
-use Rattle.links.specs.Arrays.{atPoint}
+use Rattle.links.specs.Arrays.{atPoint, gapOffset}
 use Rattle.links.specs.Placing.{entryPoint, way}
 use Rattle.links.specs.Runs.{Within, Distinct}
 use Rattle.links.specs.Storing.{putAt, coveredGaps, coveredOwners, filled}
@@ -68,10 +68,10 @@ module _ (f : ℕ → ℕ) (l es : List ℕ) where
             ]
 
 -- The covered gaps are such a list.
-gaps-covered : (gap es : List ℕ) (p : Spot) (i : ℕ) → coveredGaps gap es p i ≡ covered (λ j. way gap es j + p .s1 + 32768 - p .dx) gap es i
+gaps-covered : (gap es : List ℕ) (p : Spot) (i : ℕ) → coveredGaps gap es p i ≡ covered (λ j. way gap es j + p .s1 + gapOffset - p .dx) gap es i
 unfolding coveredGaps covered
 gaps-covered gap es p zero = refl
-gaps-covered gap es p (suc i) = ap (λ (l : List ℕ). putAt l (entryPoint es (suc i)) (way gap es (suc i) + p .s1 + 32768 - p .dx)) (gaps-covered gap es p i)
+gaps-covered gap es p (suc i) = ap (λ (l : List ℕ). putAt l (entryPoint es (suc i)) (way gap es (suc i) + p .s1 + gapOffset - p .dx)) (gaps-covered gap es p i)
 
 -- The owners of covered points are such a list.
 owners-covered : (owner es : List ℕ) (v i : ℕ) → coveredOwners owner es v i ≡ covered (λ j. v) owner es i
@@ -100,7 +100,7 @@ module _ (es : List ℕ) (k i : ℕ) (h : Within k es) (b : i < length es) where
 
   -- A covered point has the gap to the new one.
   pub gaps-in : (gap : List ℕ) (p : Spot) → k ≤ length gap → Distinct es → (j : ℕ) → 0 < j → j ≤ i →
-      atPoint (coveredGaps gap es p i) (entryPoint es j) ≡ way gap es j + p .s1 + 32768 - p .dx
+      atPoint (coveredGaps gap es p i) (entryPoint es j) ≡ way gap es j + p .s1 + gapOffset - p .dx
   gaps-in gap p t s j z m = ap (λ (l : List ℕ). atPoint l (entryPoint es j)) (gaps-covered gap es p i) ∙ covered-in _ gap es k h t s j i b z m
 
   -- A covered point has the new owner.

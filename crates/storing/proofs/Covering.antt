@@ -8,7 +8,7 @@ use native.Mathlib.Omega.{arith}
 use lib.ListN.{length, getD, set}
 use lib.Seq.{getD-set-other}
 use Rattle.links.specs.declared.Spot.{Spot}
-use Rattle.links.specs.Arrays.{atPoint}
+use Rattle.links.specs.Arrays.{atPoint, gapOffset}
 use Rattle.links.specs.Placing.{entryPoint, way, innerCount}
 use Rattle.links.specs.Storing.{coveredGaps, coveredOwners}
 use Rattle.links.specs.Arrays.{Arrays}
@@ -58,10 +58,10 @@ module _ {gap₀ es : List ℕ} {p : Spot} {i far : ℕ} {gap : List ℕ} {q : �
       let s : atPoint (coveredGaps gap₀ es p i) (entryPoint es (i + 1)) ≡ atPoint gap₀ (entryPoint es (i + 1)) = still gap₀ es p i (i + 1) (t .call) (omega arith) entry in
       rw (t .passed, t .gaps, t .point, sub-one, s, add-one)
 
-  pub turn-near : way gap₀ es (i + 1) + p .s1 < 32768
+  pub turn-near : way gap₀ es (i + 1) + p .s1 < gapOffset
   turn-near = omega (arith, way-most gap₀ es (i + 1) (innerCount es) (omega (arith, t .inner)), t .call .near)
 
-  pub turn-gap : {x : ℕ} → x ≡ way gap₀ es (i + 1) + p .s1 + 32768 - p .dx → set gap (q - 1) x ≡ coveredGaps gap₀ es p (i + 1)
+  pub turn-gap : {x : ℕ} → x ≡ way gap₀ es (i + 1) + p .s1 + gapOffset - p .dx → set gap (q - 1) x ≡ coveredGaps gap₀ es p (i + 1)
   unfolding coveredGaps
   turn-gap e = rw (e, t .gaps, t .point, sub-one, add-one)
 
@@ -71,7 +71,7 @@ unfolding coveredOwners
 owner-more owner₀ owner es v i q ho hq = rw (ho, hq, sub-one, add-one)
 
 -- and of the whole table
-pub cover-more : (a : Arrays) {es : List ℕ} {p : Spot} {i far q x : ℕ} {t : List ℕ} (v : ℕ) → Turn (a .gap) es p i far (coveredGaps (a .gap) es p i) q → Keeps t (covered a es p v i) → x ≡ way (a .gap) es (i + 1) + p .s1 + 32768 - p .dx →
+pub cover-more : (a : Arrays) {es : List ℕ} {p : Spot} {i far q x : ℕ} {t : List ℕ} (v : ℕ) → Turn (a .gap) es p i far (coveredGaps (a .gap) es p i) q → Keeps t (covered a es p v i) → x ≡ way (a .gap) es (i + 1) + p .s1 + gapOffset - p .dx →
     Keeps (set (set t (from gapR + (q - 1)) x) (from ownerR + (q - 1)) v) (covered a es p v (i + 1))
 cover-more a {es} {p} {i} {far} {q} {x} v t k e =
     let g = turn-gap t e in

@@ -4,17 +4,18 @@ use mathlib.Core.List.{List}
 use lib.ListN.{length}
 use Rattle.links.specs.declared.Spot.{Spot}
 use Rattle.links.specs.declared.Counts.{Counts}
-use Rattle.links.specs.Arrays.{Arrays, atPoint}
+use Rattle.links.specs.Arrays.{Arrays, atPoint, gapOffset}
 use Rattle.links.specs.Placing.{entryPoint, way, innerCount}
 use Rattle.links.specs.Runs.{Within, Distinct}
+use Rattle.links.specs.Codes.{rightPort, leftPort}
 
 -- the inner points of the entries es can be covered by a point at the spot p
 pub record Coverable (es gap : List ℕ) (p : Spot) : Type 0 where
   pub entries : 1 < length es
   pub within : Within 1024 es
   pub distinct : Distinct es
-  pub dx : p .dx ≤ 32768
-  pub near : way gap es (innerCount es) + p .s1 < 32768
+  pub dx : p .dx ≤ gapOffset
+  pub near : way gap es (innerCount es) + p .s1 < gapOffset
 
 -- point v can be linked in between wl and wr, at the spot p
 pub record Linkable (v wl wr : ℕ) (p : Spot) : Type 0 where
@@ -37,8 +38,8 @@ pub record Pushable (es : List ℕ) (c : Counts) (rights lefts : ℕ) : Type 0 w
   pub entries : 0 < length es
   pub points : c .k < 1024
   pub lines : c .lines + length es ≤ 3072
-  pub right-code : 4096 + rights < 65536
-  pub left-code : 8192 + lefts < 65536
+  pub right-code : rightPort + rights < 65536
+  pub left-code : leftPort + lefts < 65536
 
 -- a new point can be put over the run of the entries es, at the spot p
 pub record Storable (a : Arrays) (c : Counts) (es : List ℕ) (p : Spot) : Type 0 where
@@ -47,10 +48,10 @@ pub record Storable (a : Arrays) (c : Counts) (es : List ℕ) (p : Spot) : Type 
   pub distinct : Distinct es
   pub points : c .k < 1024
   pub lines : c .lines + length es ≤ 3072
-  pub dx : p .dx ≤ 32768
+  pub dx : p .dx ≤ gapOffset
   pub rest : p .rest < 65536
   pub y : p .y < 65536
   pub h : p .h < 65536
-  pub near : way (a .gap) es (innerCount es) + p .s1 < 32768
+  pub near : way (a .gap) es (innerCount es) + p .s1 < gapOffset
   pub rights : atPoint (a .drs) (entryPoint es 0) < 4095
   pub lefts : atPoint (a .dls) (entryPoint es (length es - 1)) < 4095

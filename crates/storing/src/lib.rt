@@ -1,7 +1,11 @@
 // What an accepted adding call stores into the lent table.
 // For `adding`: it asks for entries that passed the tests, and for the new point's place.
+use entries::point_of;
 use links::Counts;
+use links::GAP_OFFSET;
 use links::Spot;
+use links::bend_code;
+use rules::Bend;
 use tables::BENDS;
 use tables::DLS;
 use tables::DRS;
@@ -17,21 +21,14 @@ use words::narrow;
 ghost use mathlib.Core.Path.{_≡_};
 ghost use Prim.Native.Nat.{suc, pred, _+_, _-_, _<_, _≤_};
 ghost use lib.ListN.{length, getD, set};
+ghost use Rattle.rules.specs.Adding.{newBend};
 ghost use Rattle.links.specs.Arrays.{atPoint};
-ghost use Rattle.links.specs.Judging.{pointIn};
 ghost use Rattle.links.specs.Placing.{innerCount};
 ghost use Rattle.links.specs.Runs.{Within};
 ghost use Rattle.links.specs.Storing.{putAt, coveredGaps, coveredOwners, codeOf, withPoint};
 ghost use Rattle.tables.specs.Tables.{Full, arraysIn};
 ghost use Rattle.storing.specs.Storable.{Coverable, Linkable, Growable, Pushable, Storable};
 ghost use Rattle.storing.specs.Stages.{covered, linked, lined};
-
-// The earlier point of an entry.
-fn point_of(e: u16) -> usize
-    ensures { λ r. ⌜ r ≡ pointIn e ⌝ }
-{
-    broad(e & 32767)
-}
 
 // In the region from `at` on, the value at point p becomes v.
 fn put(table: &mut [u16], at: usize, p: usize, v: usize)
@@ -53,7 +50,7 @@ fn cover(e: &[u16], table: &mut [u16], p: Spot, v: u16)
         i += 1;
         let q = point_of(e[i]) - 1;
         far += broad(table[GAP + q]);
-        table[GAP + q] = narrow(far + p.s1 + 32768 - p.dx);
+        table[GAP + q] = narrow(far + p.s1 + GAP_OFFSET - p.dx);
         table[OWNER + q] = v;
     }
 }
@@ -73,38 +70,38 @@ fn link(table: &mut [u16], v: usize, wl: usize, wr: usize, p: Spot)
 }
 
 // The new point v has no port on this side, and w has one more: its index.
-fn grow_ports(ports: &mut [u16], v: usize, w: usize) -> usize
+fn grow_ports(ports: &mut [u16], v: usize, w: usize) -> u16
     requires { ⌜ Growable (now ports) v w × (length (now ports) ≡ 1024) ⌝ }
     ensures grown { λ r. ⌜ now (ports .exit) ≡ putAt (putAt (now (ports .entry)) v 0) w (suc (atPoint (now (ports .entry)) w)) ⌝ }
     ensures index { λ r. ⌜ r ≡ suc (atPoint (now (ports .entry)) w) ⌝ }
 {
-    let index = broad(ports[w - 1]) + 1;
-    put(ports, 0, v, 0);
-    put(ports, 0, w, index);
+    let index = ports[w - 1] + 1;
+    ports[v - 1] = 0;
+    ports[w - 1] = index;
     index
 }
 
-// The bend of entry i's line as a number: wl's new right port, wr's new left one, or a middle port.
-fn code_of(rights: usize, lefts: usize, last: usize, from: usize, i: usize) -> u16
-    requires { ⌜ (4096 + rights < 65536) × (8192 + lefts < 65536) × (12289 + i < 65536) ⌝ }
-    ensures { λ r. ⌜ r ≡ codeOf rights lefts last from i ⌝ }
+// The bend of entry i's line: at wl's new right port, wr's new left one, or a middle port.
+fn new_bend(rights: u16, lefts: u16, last: usize, from: usize, i: usize) -> Bend
+    requires { ⌜ i < 65535 ⌝ }
+    ensures { λ r. ⌜ r ≡ newBend rights lefts last from i ⌝ }
 {
     if i == 0 {
-        return narrow(4096 + rights);
+        return Bend::Right(rights);
     }
     if i == last {
-        return narrow(8192 + lefts);
+        return Bend::Left(lefts);
     }
     let next = i + 1;
     if i < from {
-        narrow(12288 + i)
+        Bend::Middle(narrow(i))
     } else {
-        narrow(12288 + next)
+        Bend::Middle(narrow(next))
     }
 }
 
 // A line for each entry, from the new point, behind the lines that are there.
-fn push_lines(e: &[u16], table: &mut [u16], c: Counts, rights: usize, lefts: usize, from: usize)
+fn push_lines(e: &[u16], table: &mut [u16], c: Counts, rights: u16, lefts: u16, from: usize)
     requires { ⌜ Pushable (now e) c rights lefts × Full (now table) ⌝ }
     ensures { λ _. ⌜ arraysIn (now (table .exit)) ≡ lined (arraysIn (now (table .entry))) (now (e .entry)) (c .lines) (suc (c .k)) (codeOf rights lefts (length (now (e .entry)) - 1) from) (length (now (e .entry))) ⌝ }
 {
@@ -116,7 +113,7 @@ fn push_lines(e: &[u16], table: &mut [u16], c: Counts, rights: usize, lefts: usi
         let line = at + i;
         table[WORDS + line] = e[i];
         table[LATER + line] = new;
-        table[BENDS + line] = code_of(rights, lefts, last, from, i);
+        table[BENDS + line] = bend_code(new_bend(rights, lefts, last, from, i));
         i += 1;
     }
 }

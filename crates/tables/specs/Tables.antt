@@ -1,21 +1,23 @@
 -- The one table that keeps a drawing: the ten arrays, one behind the other, as regions 0 to 9.
 use Prim.Native.Nat.{ℕ, pred, _+_, _-_, _*_, _<_, _≤_, min}
-use mathlib.Core.Path.{_≡_, refl, sym, ap, _∙_, fun-ext}
-use mathlib.Core.List.{List}
+use mathlib.Core.Path.{_≡_, refl, sym, ap, ap₂, _∙_, fun-ext}
+use mathlib.Core.List.{List, _++_}
 use native.Mathlib.Omega.{arith}
 use mathlib.Core.Bool.{Bool, true, false}
 use borrow.Author.Tests.{eq-eqb, ne-eqb, ltb-true, ltb-false}
-use lib.ListN.{length, length-take, length-drop, getD, set, drop}
+use lib.ListN.{length, length-take, length-drop, getD, set, drop, take-append-drop}
+use lib.Seq.{drop-drop, take-all}
 use lib.Dec.{eqb, ltb}
 use Rattle.rules.specs.Basics.{if_then_else_}
 use Rattle.links.specs.Arrays.{Arrays, arraysOf, Sized, atPoint}
 use Rattle.links.specs.Storing.{putAt}
 use Rattle.tables.specs.Parts.{part, patched, length-part, patched-before, patched-there, patched-after, part-read, set-before, set-there, set-after}
 
--- regions 0 to 6 have a word for each of 1,024 points, the others for each of 3,072 lines
+-- regions 0 to 6 have a word for each of 1,024 points, the others for each of 3,072 lines: 2,048 more
 abbrev pub size : ℕ → ℕ
 size r = 1024 + 2048 * min 1 (r - 6)
 
+-- where region r starts, behind r regions, of which those from the seventh on are longer
 abbrev pub from : ℕ → ℕ
 from r = 1024 * r + 2048 * (r - 7)
 
@@ -53,9 +55,12 @@ laterR = 8
 abbrev pub bendsR : ℕ
 bendsR = 9
 
--- the table has room for all of them
+-- the table's words, and a list that has room for them
+abbrev pub tableSize : ℕ
+tableSize = from 10
+
 abbrev pub Full : List ℕ → Type 0
-Full t = 16384 ≤ length t
+Full t = tableSize ≤ length t
 
 unfoldable pub arraysIn : List ℕ → Arrays
 arraysIn t =
@@ -136,7 +141,7 @@ point-read r t i p e h = arrays-read r t i 0 (omega arith) ∙ ap (λ j. getD (r
 pub sized : (t : List ℕ) → Full t → Sized (arraysIn t)
 unfolding arraysIn
 sized t h =
-    let long : (r : ℕ) → from r + size r ≤ 16384 → length (region t r) ≡ size r = λ r k. length-part (from r) (size r) t (omega arith) in
+    let long : (r : ℕ) → from r + size r ≤ tableSize → length (region t r) ≡ size r = λ r k. length-part (from r) (size r) t (omega arith) in
     record {
       next = long 0 (omega arith);
       gap = long 1 (omega arith);
@@ -156,3 +161,29 @@ region-long r t h = length-part (from r) (size r) t h
 pub table-long : (t : List ℕ) → Sized (arraysIn t) → Full t
 unfolding arraysIn
 table-long t s = omega (arith, s .bends, length-take 3072 (drop 13312 t), length-drop 13312 t)
+
+-- ---- the whole table
+
+-- a part, and what stands behind it
+from-part : (a n : ℕ) (t : List ℕ) → part a n t ++ drop (a + n) t ≡ drop a t
+from-part a n t = ap (λ l. part a n t ++ l) (sym (drop-drop n a t)) ∙ take-append-drop n (drop a t)
+
+part-same : (a n : ℕ) (t t′ : List ℕ) → part a n t ≡ part a n t′ → drop (a + n) t ≡ drop (a + n) t′ → drop a t ≡ drop a t′
+part-same a n t t′ p q = sym (from-part a n t) ∙ ap₂ (λ (l m : List ℕ). l ++ m) p q ∙ from-part a n t′
+
+-- The ten arrays are all of it: tables with the same arrays are the same.
+pub table-same : (t t′ : List ℕ) → length t ≡ tableSize → length t′ ≡ tableSize → arraysIn t ≡ arraysIn t′ → t ≡ t′
+unfolding arraysIn
+table-same t t′ n n′ e =
+    let behind : (r : ℕ) → region t r ≡ region t′ r → drop (from r + size r) t ≡ drop (from r + size r) t′ → drop (from r) t ≡ drop (from r) t′ = λ r. part-same (from r) (size r) t t′ in
+    let all : (l : List ℕ) → length l ≡ tableSize → region l bendsR ≡ drop (from bendsR) l = λ l m. take-all (size bendsR) (drop (from bendsR) l) (omega (arith, length-drop (from bendsR) l)) in
+    behind nextR (ap (λ a. a .next) e)
+    (behind gapR (ap (λ a. a .gap) e)
+    (behind ownerR (ap (λ a. a .owner) e)
+    (behind ysR (ap (λ a. a .ys) e)
+    (behind dlsR (ap (λ a. a .dls) e)
+    (behind drsR (ap (λ a. a .drs) e)
+    (behind hsR (ap (λ a. a .hs) e)
+    (behind wordsR (ap (λ a. a .words) e)
+    (behind laterR (ap (λ a. a .later) e)
+    (sym (all t n) ∙ ap (λ a. a .bends) e ∙ all t′ n′)))))))))

@@ -1,22 +1,31 @@
-// Where each of the arrays that keep a drawing starts, in the one lent table.
+// The one lent table that keeps a drawing, and where each of its regions starts: seven with a word for each point, three with a word for each line.
+// Crate `links` says what each of them holds.
+
+// Room for so many points, and so many lines.
+pub const POINTS: usize = 1024;
+
+pub const LINES: usize = 3072;
+
 pub const NEXT: usize = 0;
 
-pub const GAP: usize = 1024;
+pub const GAP: usize = NEXT + POINTS;
 
-pub const OWNER: usize = 2048;
+pub const OWNER: usize = GAP + POINTS;
 
-pub const YS: usize = 3072;
+pub const YS: usize = OWNER + POINTS;
 
-pub const DLS: usize = 4096;
+pub const DLS: usize = YS + POINTS;
 
-pub const DRS: usize = 5120;
+pub const DRS: usize = DLS + POINTS;
 
-pub const HS: usize = 6144;
+pub const HS: usize = DRS + POINTS;
 
-pub const WORDS: usize = 7168;
+pub const WORDS: usize = HS + POINTS;
 
-pub const LATER: usize = 10240;
+pub const LATER: usize = WORDS + LINES;
 
-pub const BENDS: usize = 13312;
+pub const BENDS: usize = LATER + LINES;
 
-pub const END: usize = 16384;
+pub const END: usize = BENDS + LINES;
+
+pub type Table = [u16; END];

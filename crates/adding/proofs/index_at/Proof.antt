@@ -16,9 +16,6 @@ shared-slice-read-point-of c = search needs
 point-of-requires : tie.Need-point-of-requires
 point-of-requires c κs = search needs
 
-cast-result : tie.Need-cast-result
-cast-result c = search needs
-
 sub-result : tie.Need-sub-result
 sub-result c =
     let z = c .before .before .before in
@@ -36,6 +33,5 @@ index-at-spec =
     mul-point-of
     shared-slice-read-point-of
     point-of-requires
-    cast-result
     sub-result
     returns)

@@ -1,12 +1,13 @@
 -- `add` meets its contract: the core's answer and arrays are those of the rules.
 use mathlib.Core.Path.{_≡_, _∙_}
 use lib.ListN.{length}
+use Rattle.tables.specs.Tables.{tableSize}
 use Rattle.drawing.specs.Adds.{ready, adds}
 use borrow.Author.Needs.{needs}
 use Rattle.drawing.proofs.add.Statement.{statement}
 use Rattle.drawing.proofs.add.Tie as tie
 
-long : (c : tie.Start) → length (c .args .d .table) ≡ 16384
+long : (c : tie.Start) → length (c .args .d .table) ≡ tableSize
 long c = search needs
 
 slice-aggregate-add : tie.Need-slice-aggregate-add

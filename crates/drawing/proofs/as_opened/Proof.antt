@@ -8,7 +8,7 @@ open-in-requires : tie.Need-open-in-requires
 open-in-requires c κs = refl
 
 returns : tie.Need-returns
-returns c = record { arrays = c .open-in .ensures; counts = refl }
+returns c = record { arrays = c .open-in .ensures .0; counts = c .open-in .ensures .1 }
 
 pub as-opened-spec : {M : Type 1} → statement M
 as-opened-spec = tie.close (tie.spec open-in-requires returns)

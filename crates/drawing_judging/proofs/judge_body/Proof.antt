@@ -5,17 +5,18 @@ use borrow.Author.Needs.{needs}
 use Rattle.rules.specs.declared.Answer.the-variants.{Accepted}
 use Rattle.rules.specs.Refusals.{answer}
 use Rattle.records.specs.Marked.{recordTests, several-answer}
+use Rattle.rules.specs.Records.{placeMark, lineMark, headSize}
 use Rattle.drawing_judging.specs.Files.{linesFrom, lineCount}
 use Rattle.drawing_judging.proofs.Stages.{points-stop, points-there, lines-stop, lines-there, end-says}
 use Rattle.drawing_judging.proofs.judge_body.Statement.{statement}
 use Rattle.drawing_judging.proofs.judge_body.Tie as tie
 
 -- once the points stand
-points : (d : tie.After-enum-told) → let a = d .before .before .before .before .args in answer (recordTests (a .f .now) 0x504F 2 (a .n) 10) ≡ Accepted
+points : (d : tie.After-enum-told) → let a = d .before .before .before .before .args in answer (recordTests (a .f .now) placeMark 2 (a .n) headSize) ≡ Accepted
 points d = sym (d .before .before .marks .ensures ∙ several-answer _ _ _ _ _) ∙ d .enum-told .given .1
 
 -- once the lines stand
-lines : (d : tie.After-enum-told3) → let a = d .before .before .before .before .before .before .before .args in answer (recordTests (a .f .now) 0x4C4E 5 (lineCount (a .n)) (linesFrom (a .n))) ≡ Accepted
+lines : (d : tie.After-enum-told3) → let a = d .before .before .before .before .before .before .before .args in answer (recordTests (a .f .now) lineMark 5 (lineCount (a .n)) (linesFrom (a .n))) ≡ Accepted
 lines d = sym (d .before .before .marks2 .ensures ∙ several-answer _ _ _ _ _) ∙ d .enum-told3 .given .1
 
 marks-requires : tie.Need-marks-requires

@@ -7,6 +7,7 @@ use borrow.Author.Needs.{needs}
 use Rattle.rules.specs.declared.Answer.the-variants.{Accepted}
 use Rattle.rules.specs.Refusals.{answer}
 use Rattle.records.specs.Results.{accepted}
+use Rattle.rules.specs.Records.{headSize}
 use Rattle.drawing_judging.specs.Files.{nIn, linesEnd, headTests, bodyTests, head-tells, body-tells}
 use Rattle.drawing_judging.proofs.Stages.{file-head, file-body, file-start}
 use Rattle.drawing_judging.proofs.judge_file.Statement.{statement}
@@ -25,7 +26,7 @@ body : (d : tie.After-enum-told3) → let b = d .before .before .before in answe
 body d = sym (d .before .before .judge-body .ensures) ∙ d .enum-told3 .given .1
 
 -- what n and the length then are
-range : (d : tie.After-broad) → let f = d .before .before .before .before .before .before .args .f .now in (10 ≤ length f) × (3 ≤ d .broad .result) × (d .broad .result ≤ 1024)
+range : (d : tie.After-broad) → let f = d .before .before .before .before .before .before .args .f .now in (headSize ≤ length f) × (3 ≤ d .broad .result) × (d .broad .result ≤ 1024)
 range d = let t = head-tells _ (accepted _ (head (d .before .before))) in (t .0, omega (arith, n-is d, t .1), omega (arith, n-is d, t .2))
 
 there : (d : tie.After-enum-told3) → let b = d .before .before .before in linesEnd (b .broad .result) ≤ length (b .before .before .before .before .before .before .args .f .now)

@@ -8,16 +8,17 @@ use Rattle.rules.specs.Refusals.{answer}
 use Rattle.rules.specs.Basics.{between}
 use Rattle.words.specs.Bytes.{wordAt}
 use Rattle.records.specs.Marked.{recordTests, several-answer}
+use Rattle.rules.specs.Records.{drawingMark}
 use Rattle.drawing_judging.proofs.Stages.{head-stops, head-long, n-out, s-out, head-good}
 use Rattle.drawing_judging.proofs.judge_head.Statement.{statement}
 use Rattle.drawing_judging.proofs.judge_head.Tie as tie
 
 -- what the header's record answers
-said : (d : tie.After-marks) → d .marks .result ≡ answer (recordTests (d .before .before .args .f .now) 0x4448 4 1 0)
+said : (d : tie.After-marks) → d .marks .result ≡ answer (recordTests (d .before .before .args .f .now) drawingMark 4 1 0)
 said d = d .marks .ensures ∙ several-answer _ _ _ _ _
 
 -- once it stands
-stands : (d : tie.After-enum-told) → answer (recordTests (d .before .before .before .before .args .f .now) 0x4448 4 1 0) ≡ Accepted
+stands : (d : tie.After-enum-told) → answer (recordTests (d .before .before .before .before .args .f .now) drawingMark 4 1 0) ≡ Accepted
 stands d = sym (said (d .before .before)) ∙ d .enum-told .given .1
 
 -- whether n and s lie in their ranges

@@ -1,10 +1,11 @@
 -- `drawing_judging::judge_start` meets its contract: each return gives the answer of the first test that fails.
-use Prim.Native.Nat.{_+_}
+use Prim.Native.Nat.{_+_, _*_}
 use mathlib.Core.Path.{sym, _∙_, _≡_}
 use mathlib.Core.Bool.{true}
 use borrow.Author.Needs.{needs}
 use borrow.Author.Tests.{not-true, not-false}
 use Rattle.line_records.specs.Lines.{lineAt, joins}
+use Rattle.rules.specs.Records.{lineSize}
 use Rattle.drawing_judging.proofs.Starts.{first-other, second-of-2, second-other, third-other, all-there, fourth-of-3, all-begun}
 use Rattle.drawing_judging.proofs.judge_start.Statement.{statement}
 use Rattle.drawing_judging.proofs.judge_start.Tie as tie
@@ -13,10 +14,10 @@ use Rattle.drawing_judging.proofs.judge_start.Tie as tie
 first : (d : tie.Else1) → let a = d .before .before .before .args in joins (lineAt (a .f .now) (a .at)) 2 1 ≡ true
 first d = sym (d .before .line-joins .ensures) ∙ not-false _ (d .if1 .left)
 
-second : (d : tie.Else3) → let a = d .before .before .before .before .before .before .before .args in joins (lineAt (a .f .now) (a .at + 12)) 3 1 ≡ true
+second : (d : tie.Else3) → let a = d .before .before .before .before .before .before .before .args in joins (lineAt (a .f .now) (a .at + lineSize)) 3 1 ≡ true
 second d = sym (d .before .line-joins2 .ensures) ∙ not-false _ (d .if3 .left)
 
-third : (d : tie.Else4) → let a = d .before .before .before .before .before .before .before .before .before .args in joins (lineAt (a .f .now) (a .at + 24)) 3 2 ≡ true
+third : (d : tie.Else4) → let a = d .before .before .before .before .before .before .before .before .before .args in joins (lineAt (a .f .now) (a .at + 2 * lineSize)) 3 2 ≡ true
 third d = sym (d .before .line-joins3 .ensures) ∙ not-false _ (d .if4 .left)
 
 line-joins-requires : tie.Need-line-joins-requires

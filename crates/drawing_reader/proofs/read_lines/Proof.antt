@@ -16,8 +16,11 @@ enum-told c = search needs
 enum-told-2 : tie.Need-enum-told-2
 enum-told-2 c = search needs
 
+no-counts-requires : tie.Need-no-counts-requires
+no-counts-requires c κs = search needs
+
 returns : tie.Need-returns
-returns c = refused-early _ (c .before .before .judge-file .ensures) _ _ (c .enum-told2 .given .1)
+returns c = let d = c .before in refused-early _ (d .before .before .judge-file .ensures) _ _ (d .enum-told2 .given .1)
 
 read-passed-requires : tie.Need-read-passed-requires
 read-passed-requires c κs =
@@ -34,6 +37,7 @@ read-lines-spec =
     judge-file-requires
     enum-told
     enum-told-2
+    no-counts-requires
     returns
     read-passed-requires
     returns-2)

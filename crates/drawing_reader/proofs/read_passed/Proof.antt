@@ -1,9 +1,9 @@
 -- `drawing_reader::read_passed` meets its contract: the arrays as opened hold the drawing that the file begins, and the groups are added to it.
-use mathlib.Core.Path.{_≡_, _∙_}
+use mathlib.Core.Path.{_≡_, ap, _∙_}
 use native.Mathlib.Omega.{arith}
 use borrow.Author.Needs.{needs}
 use Rattle.tables.specs.Tables.{arraysIn}
-use Rattle.links.specs.Opening.{openCounts}
+use Rattle.links.specs.declared.Counts.{Counts}
 use Rattle.stored.specs.Adding.{Holds}
 use Rattle.drawing_judging.specs.Files.{nIn, sIn}
 use Rattle.drawing_reader.specs.Whole.{begunIn}
@@ -18,13 +18,13 @@ n-is d = d .broad .ensures ∙ d .before .word-at .ensures
 s-is : (d : tie.After-broad2) → d .broad2 .result ≡ sIn (d .before .before .before .before .before .args .f .now)
 s-is d = d .broad2 .ensures ∙ d .before .word-at2 .ensures
 
--- the arrays as opened
+-- the arrays and the numbers as opened
 opened : (o : tie.After-open-in) →
     let q = o .before .before .before .before .before in
-    Holds (begunIn (q .before .before .before .before .before .args .f .now)) (arraysIn (o .open-in .last .0)) (openCounts (q .before .before .broad .result) (q .broad2 .result))
+    Holds (begunIn (q .before .before .before .before .before .args .f .now)) (arraysIn (o .open-in .last .0)) (o .open-in .result)
 opened o =
     let q = o .before .before .before .before .before in
-    opened-holds (q .before .before .before .before .before .pre .0) _ _ (n-is (q .before .before)) (s-is q) _ _ _ _ (o .before .before .before .before .entry-at .ensures) (o .before .before .before .entry-at2 .ensures) (o .before .before .entry-at3 .ensures) (o .open-in .ensures)
+    opened-holds (q .before .before .before .before .before .pre .0) _ _ (n-is (q .before .before)) (s-is q) _ _ _ _ _ (o .before .before .before .before .entry-at .ensures) (o .before .before .before .entry-at2 .ensures) (o .before .before .entry-at3 .ensures) (o .open-in .ensures)
 
 word-at-requires : tie.Need-word-at-requires
 word-at-requires c κs = search needs
@@ -73,13 +73,13 @@ add-groups-requires c κs =
     let o = c .before in
     let z = o .before .before .before .before .before .before .before .before .before .before in
     let l = lines-lie (z .pre .0) _ (n-is (o .before .before .before .before .before .before .before)) in
-    record { there = l .0; few = omega (arith, l .1); most = omega (arith, l .2); ready = record { d = _; holds = opened o } }
+    record { there = l .0; few = omega (arith, l .1, ap (λ (k : Counts). k .lines) (o .open-in .ensures .1)); most = omega (arith, l .2); ready = record { d = _; holds = opened o } }
 
 returns : tie.Need-returns
 returns c =
     let o = c .before .before in
     let q = o .before .before .before .before .before in
-    all-read (q .before .before .before .before .before .pre .0) _ _ (n-is (q .before .before)) (s-is q) (opened o) (c .add-groups .ensures)
+    all-read (q .before .before .before .before .before .pre .0) _ _ (n-is (q .before .before)) (s-is q) (o .open-in .ensures .1) (opened o) (c .add-groups .ensures)
 
 pub read-passed-spec : {M : Type 1} → statement M
 read-passed-spec =

@@ -1,6 +1,7 @@
 -- `write_head` meets its contract: each number stands behind those before it.
 use mathlib.Core.Path.{refl}
 use mathlib.Core.List.{[], _∷_}
+use Rattle.rules.specs.Records.{drawingMark}
 use Rattle.drawing_writer.specs.Stores.{word-stored, word-behind}
 use borrow.Author.Needs.{needs}
 use Rattle.drawing_writer.proofs.write_head.Statement.{statement}
@@ -32,11 +33,11 @@ returns c =
     let p2 = p3 .before .before .before .before in
     let p1 = p2 .before .before .before .before in
     let a = p1 .before .before .before .args in
-    word-behind (0x4448 ∷ a .n ∷ a .s ∷ a .width ∷ []) 8 _ refl
-    (word-behind (0x4448 ∷ a .n ∷ a .s ∷ []) 6 _ refl
-    (word-behind (0x4448 ∷ a .n ∷ []) 4 _ refl
-    (word-behind (0x4448 ∷ []) 2 _ refl
-    (word-stored _ _ 0x4448 (p1 .put-word .ensures))
+    word-behind (drawingMark ∷ a .n ∷ a .s ∷ a .width ∷ []) 8 _ refl
+    (word-behind (drawingMark ∷ a .n ∷ a .s ∷ []) 6 _ refl
+    (word-behind (drawingMark ∷ a .n ∷ []) 4 _ refl
+    (word-behind (drawingMark ∷ []) 2 _ refl
+    (word-stored _ _ drawingMark (p1 .put-word .ensures))
     (p2 .put-word2 .ensures))
     (p3 .put-word3 .ensures))
     (p4 .put-word4 .ensures))

@@ -5,6 +5,7 @@ use native.Mathlib.Omega.{arith}
 use borrow.Author.Needs.{needs}
 use lib.ListN.{length}
 use Rattle.tables.specs.Tables.{arraysIn}
+use Rattle.rules.specs.Records.{lineSize}
 use Rattle.drawing_writer.specs.Lists.{several, lineBytes}
 use Rattle.drawing_writer.specs.Stores.{Stored, none-stored, record-behind}
 use Rattle.drawing_writer.proofs.Written.{length-line}
@@ -46,7 +47,7 @@ loop-again c =
     let a = l .before .before .before .args in (
       omega arith,
       omega arith,
-      record-behind (lineBytes (a .s) (a .x .now) (arraysIn (a .table .now))) 12 (l .loop .e) (length-line (a .s) (a .x .now) (arraysIn (a .table .now))) refl (l .loop .inv .2) (w .write-line .ensures),
+      record-behind (lineBytes (a .s) (a .x .now) (arraysIn (a .table .now))) lineSize (l .loop .e) (length-line (a .s) (a .x .now) (arraysIn (a .table .now))) refl (l .loop .inv .2) (w .write-line .ensures),
     )
 
 same-length : tie.Need-same-length Inv-loop μ-loop

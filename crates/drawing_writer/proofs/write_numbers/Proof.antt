@@ -1,6 +1,7 @@
 -- `write_numbers` meets its contract: each number stands behind those before it.
 use mathlib.Core.Path.{refl}
 use mathlib.Core.List.{[], _∷_}
+use Rattle.rules.specs.Records.{lineMark}
 use Rattle.drawing_writer.specs.Stores.{word-stored, word-behind}
 use borrow.Author.Needs.{needs}
 use Rattle.drawing_writer.proofs.write_numbers.Statement.{statement}
@@ -51,12 +52,12 @@ returns c =
     let p2 = p3 .before .before .before .before in
     let p1 = p2 .before .before .before .before in
     let a = p1 .before .before .before .args in
-    word-behind (0x4C4E ∷ a .later ∷ a .earlier ∷ a .x ∷ a .y ∷ []) _ _ refl
-    (word-behind (0x4C4E ∷ a .later ∷ a .earlier ∷ a .x ∷ []) _ _ refl
-    (word-behind (0x4C4E ∷ a .later ∷ a .earlier ∷ []) _ _ refl
-    (word-behind (0x4C4E ∷ a .later ∷ []) _ _ refl
-    (word-behind (0x4C4E ∷ []) _ _ refl
-    (word-stored _ _ 0x4C4E (p1 .put-word .ensures))
+    word-behind (lineMark ∷ a .later ∷ a .earlier ∷ a .x ∷ a .y ∷ []) _ _ refl
+    (word-behind (lineMark ∷ a .later ∷ a .earlier ∷ a .x ∷ []) _ _ refl
+    (word-behind (lineMark ∷ a .later ∷ a .earlier ∷ []) _ _ refl
+    (word-behind (lineMark ∷ a .later ∷ []) _ _ refl
+    (word-behind (lineMark ∷ []) _ _ refl
+    (word-stored _ _ lineMark (p1 .put-word .ensures))
     (p2 .put-word2 .ensures))
     (p3 .put-word3 .ensures))
     (p4 .put-word4 .ensures))

@@ -1,6 +1,7 @@
 -- `write_point` meets its contract: each number stands behind those before it.
 use mathlib.Core.Path.{refl}
 use mathlib.Core.List.{[], _∷_}
+use Rattle.rules.specs.Records.{placeMark}
 use Rattle.drawing_writer.specs.Stores.{word-stored, word-behind}
 use borrow.Author.Needs.{needs}
 use Rattle.drawing_writer.proofs.write_point.Statement.{statement}
@@ -30,9 +31,9 @@ returns c =
     let p2 = p3 .before .before .before .before in
     let p1 = p2 .before .before .before .before in
     let a = p1 .before .before .before .args in
-    word-behind (0x504F ∷ a .x ∷ []) _ _ refl
-    (word-behind (0x504F ∷ []) _ _ refl
-    (word-stored _ _ 0x504F (p1 .put-word .ensures))
+    word-behind (placeMark ∷ a .x ∷ []) _ _ refl
+    (word-behind (placeMark ∷ []) _ _ refl
+    (word-stored _ _ placeMark (p1 .put-word .ensures))
     (p2 .put-word2 .ensures))
     (p3 .put-word3 .ensures)
 

@@ -4,6 +4,7 @@ use mathlib.Core.Path.{_≡_, refl, _∙_}
 use native.Mathlib.Omega.{arith}
 use borrow.Author.Needs.{needs}
 use lib.ListN.{length}
+use Rattle.rules.specs.Records.{headSize, placeSize}
 use Rattle.drawing_writer.specs.Lists.{several, pointBytes}
 use Rattle.drawing_writer.proofs.Written.{point-stored}
 use Rattle.drawing_writer.specs.Stores.{Stored, none-stored, record-behind}
@@ -11,7 +12,7 @@ use Rattle.drawing_writer.proofs.write_points.Statement.{statement}
 use Rattle.drawing_writer.proofs.write_points.Tie as tie
 
 abbrev Inv-loop : tie.InvT-loop
-Inv-loop out₀ x ys s k i₀ out i = (i ≤ k) × (length out ≡ length out₀) × Stored out₀ 10 (several (pointBytes s x ys) i) out
+Inv-loop out₀ x ys s k i₀ out i = (i ≤ k) × (length out ≡ length out₀) × Stored out₀ headSize (several (pointBytes s x ys) i) out
 
 abbrev μ-loop : tie.MeasureT-loop
 μ-loop out₀ x ys s k i₀ out i = k - i
@@ -80,7 +81,7 @@ loop-again c =
     let a = l .before .before .before .args in (
       omega arith,
       omega arith,
-      record-behind (pointBytes (a .s) (a .x .now) (a .ys .now)) 6 (l .loop .i) (λ j. refl) refl (l .loop .inv .2)
+      record-behind (pointBytes (a .s) (a .x .now) (a .ys .now)) placeSize (l .loop .i) (λ j. refl) refl (l .loop .inv .2)
           (point-stored (a .s) (a .x .now) (a .ys .now) (l .loop .i) (x .narrow .ensures ∙ rw (x .before .broad .ensures)) (y .narrow2 .ensures ∙ rw (y .before .broad2 .ensures)) (w .write-point .ensures)),
     )
 

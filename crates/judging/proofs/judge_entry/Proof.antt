@@ -1,5 +1,5 @@
 -- `judging::judge_entry` meets its contract: each return is one of the two tests.
-use mathlib.Core.Path.{_≡_, _∙_}
+use mathlib.Core.Path.{_≡_}
 use mathlib.Core.List.{[], _∷_}
 use borrow.Author.Needs.{needs}
 use Rattle.links.specs.Judging.{entriesPass}
@@ -9,16 +9,13 @@ use Rattle.judging.proofs.judge_entry.Statement.{statement}
 use Rattle.judging.proofs.judge_entry.Tie as tie
 
 -- the two tests, by the point that was read
-tests : (d : tie.After-broad) → let a = d .before .before .before .args in entriesPass (a .owner .now) (a .k) (a .i) (a .e ∷ []) ≡ entryTests (a .owner .now) (a .k) (a .i) (d .broad .result)
+tests : (d : tie.After-point-of) → let a = d .before .before .args in entriesPass (a .owner .now) (a .k) (a .i) (a .e ∷ []) ≡ entryTests (a .owner .now) (a .k) (a .i) (d .point-of .result)
 tests d =
-    let a = d .before .before .before .args in
-    entry-by (a .owner .now) (a .k) (a .i) (a .e) (d .broad .result) (d .broad .ensures ∙ d .before .point-of .ensures)
+    let a = d .before .before .args in
+    entry-by (a .owner .now) (a .k) (a .i) (a .e) (d .point-of .result) (d .point-of .ensures)
 
 point-of-requires : tie.Need-point-of-requires
 point-of-requires c κs = search needs
-
-broad-requires : tie.Need-broad-requires
-broad-requires c κs = search needs
 
 returns : tie.Need-returns
 returns c = rw (tests (c .before), eq-eqb _ _ (c .if1 .taken))
@@ -50,7 +47,6 @@ judge-entry-spec =
     tie.close
     (tie.spec
     point-of-requires
-    broad-requires
     returns
     returns-2
     sub-if3

@@ -18,26 +18,26 @@ abbrev μ-loop : tie.MeasureT-loop
 μ-loop e next i₀ i = length e - i
 
 -- the point before is placed
-placed : (d : tie.After-broad Inv-loop μ-loop) → (0 < d .broad .result) × (d .broad .result ≤ 1024)
+placed : (d : tie.After-point-of Inv-loop μ-loop) → (0 < d .point-of .result) × (d .point-of .result ≤ 1024)
 placed d =
-    let b = d .before .before .before .before in
+    let b = d .before .before .before in
     let w = b .before .before .before .pre .1 in
     let h : b .loop .i - 1 < length (b .before .before .before .args .e .now) = search needs in
-    let same = d .broad .ensures ∙ d .before .point-of .ensures in
-    (omega (arith, same, w .low _ h), omega (arith, same, w .high _ h))
+    (omega (arith, d .point-of .ensures, w .low _ h), omega (arith, d .point-of .ensures, w .high _ h))
 
 -- the test of the entry that was read, then those behind it
-turn : (d : tie.After-point-of2 Inv-loop μ-loop) →
-    let p = d .before .before in
-    let b = p .before .before .before .before in
+turn : (d : tie.After-broad Inv-loop μ-loop) →
+    let q = d .before .before in
+    let b = q .before .before .before .before .before in
     let a = b .before .before .before .args in
     runPasses (a .next .now) (a .e .now) ≡
-    linkFirst (a .next .now) (b .loop .i) (p .broad .result) (d .point-of2 .result) (linksPass (a .next .now) (b .loop .i + 1) (entryPoint (a .e .now) (b .loop .i + 1 - 1)) (drop (b .loop .i + 1) (a .e .now)))
+    linkFirst (b .loop .i) (q .point-of2 .result) (d .broad .result) (linksPass (a .next .now) (b .loop .i + 1) (entryPoint (a .e .now) (b .loop .i + 1 - 1)) (drop (b .loop .i + 1) (a .e .now)))
 turn d =
-    let p = d .before .before in
-    let b = p .before .before .before .before in
+    let q = d .before .before in
+    let p = q .before .before in
+    let b = p .before .before .before in
     let a = b .before .before .before .args in
-    b .loop .inv .1 ∙ link-turn (a .next .now) (a .e .now) (b .loop .i) (p .broad .result) (d .point-of2 .result) (search needs) (p .broad .ensures ∙ p .before .point-of .ensures) (d .point-of2 .ensures)
+    b .loop .inv .1 ∙ link-turn (a .next .now) (a .e .now) (b .loop .i) (p .point-of .result) (q .point-of2 .result) (d .broad .result) (search needs) (p .point-of .ensures) (q .point-of2 .ensures) (d .broad .ensures)
 
 loop-holds : tie.Need-loop-holds Inv-loop μ-loop
 loop-holds c = (search needs, link-start (c .before .before .args .next .now) (c .before .before .args .e .now))
@@ -66,17 +66,17 @@ shared-slice-read-point-of-2 c = search needs
 point-of-requires-2 : tie.Need-point-of-requires-2 Inv-loop μ-loop
 point-of-requires-2 c κs = search needs
 
-sub-if1 : tie.Need-sub-if1 Inv-loop μ-loop
-sub-if1 c = omega (arith, placed (c .before .before) .0)
+sub-broad : tie.Need-sub-broad Inv-loop μ-loop
+sub-broad c = omega (arith, placed (c .before .before) .0)
 
-mul-if1 : tie.Need-mul-if1 Inv-loop μ-loop
-mul-if1 c = omega (arith, placed (c .before .before) .1)
+mul-broad : tie.Need-mul-broad Inv-loop μ-loop
+mul-broad c = omega (arith, placed (c .before .before) .1)
 
-shared-slice-read-if1 : tie.Need-shared-slice-read-if1 Inv-loop μ-loop
-shared-slice-read-if1 c = omega (arith, placed (c .before .before .before) .0, placed (c .before .before .before) .1)
+shared-slice-read-broad : tie.Need-shared-slice-read-broad Inv-loop μ-loop
+shared-slice-read-broad c = omega (arith, placed (c .before .before .before) .0, placed (c .before .before .before) .1)
 
 returns : tie.Need-returns Inv-loop μ-loop
-returns c = rw (turn (c .before .before), ne-eqb _ _ (c .if1 .taken))
+returns c = rw (turn (c .before), ne-eqb _ _ (c .if1 .taken))
 
 add-i : tie.Need-add-i Inv-loop μ-loop
 add-i c = search needs
@@ -85,7 +85,7 @@ loop-less : tie.Need-loop-less Inv-loop μ-loop
 loop-less c = search needs
 
 loop-again : tie.Need-loop-again Inv-loop μ-loop
-loop-again c = (search needs, turn (c .before .before) ∙ rw (eq-eqb _ _ (c .if1 .left)))
+loop-again c = (search needs, turn (c .before) ∙ rw (eq-eqb _ _ (c .if1 .left)))
 
 returns-2 : tie.Need-returns-2 Inv-loop μ-loop
 returns-2 c = rw (c .before .loop .inv .1, drop-of-length-le _ (c .loop-test .left))
@@ -101,13 +101,13 @@ judge-run-spec =
     mul-point-of
     shared-slice-read-point-of
     point-of-requires
-    broad-requires
     mul-point-of-2
     shared-slice-read-point-of-2
     point-of-requires-2
-    sub-if1
-    mul-if1
-    shared-slice-read-if1
+    sub-broad
+    mul-broad
+    shared-slice-read-broad
+    broad-requires
     returns
     add-i
     loop-less

@@ -4,6 +4,8 @@ use mathlib.Core.Path.{_≡_, refl, ap, _∙_}
 use mathlib.Core.List.{List}
 use native.Mathlib.Omega.{arith}
 use lib.ListN.{set}
+use Rattle.rules.specs.declared.Bend.the-variants.{Left, Right, Straight}
+use Rattle.links.specs.Codes.{bendCode}
 use Rattle.links.specs.Arrays.{Arrays}
 use Rattle.links.specs.Opening.{openArrays}
 use Rattle.tables.specs.Tables.{from, arraysIn, changed, Keeps, arrays-store, nextR, gapR, ysR, dlsR, drsR, wordsR, laterR, bendsR}
@@ -61,7 +63,7 @@ returns c =
     let k5 = three drsR 1 0 0 k4 (s5 .three5 .ensures) in
     let k6 = three wordsR (a .a) (a .b) (a .c) k5 (s6 .three6 .ensures) in
     let k7 = three laterR 2 3 3 k6 (s7 .three7 .ensures) in
-    three bendsR 0 4097 8193 k7 (c .three8 .ensures) .is
+    (three bendsR (bendCode Straight) (bendCode (Right 1)) (bendCode (Left 1)) k7 (c .three8 .ensures) .is, refl)
 
 pub open-in-spec : {M : Type 1} → statement M
 open-in-spec =

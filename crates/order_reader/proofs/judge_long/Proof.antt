@@ -7,7 +7,8 @@ use Rattle.rules.specs.Records.{wordsIn}
 use Rattle.links.specs.Judging.{entriesPass}
 use Rattle.tables.specs.Tables.{region, arraysIn, ownerR}
 use Rattle.judging.specs.Passed.{entry-refused, entry-passed}
-use Rattle.records.specs.Cursors.{words-count, words-each}
+use Rattle.records.specs.Cursors.{words-count}
+use Rattle.records.specs.Marked.{words-in}
 use Rattle.order_reader.proofs.Longs.{long-finished, long-entry, long-run}
 use borrow.Author.Needs.{needs}
 use Rattle.order_reader.proofs.judge_long.Statement.{statement}
@@ -44,7 +45,7 @@ entry-is : (w : tie.After-word-at Inv-loop μ-loop) → let b = w .before .befor
 entry-is w =
     let b = w .before .before in
     let z = start b in
-    w .word-at .ensures ∙ sym (words-each (z .args .f .now) (z .args .from) (z .args .count) (z .pre .0 .there) (b .loop .i) (w .before .loop-test .taken))
+    w .word-at .ensures ∙ sym (words-in (z .args .f .now) (z .args .count) (z .args .from) (z .pre .0 .there) (b .loop .i) (w .before .loop-test .taken))
 
 returns : tie.Need-returns Inv-loop μ-loop
 returns c = let z = c .before .before .before .before in λ d h. long-finished h (words z) (many z) (c .if1 .taken)

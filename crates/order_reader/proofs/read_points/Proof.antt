@@ -50,7 +50,7 @@ read-rest-requires c κs =
     let o = c .before in
     let d = begun o in
     let y = points d in
-    start-going (start y .pre) (start y .args .s) (d .before .a .given .0 .0) (d .before .a .given .0 .1 .0) (d .before .a .given .0 .1 .1 .0) (d .before .a .given .0 .1 .1 .1 .0) (y .read-first .result) (y .read-first .ensures) (d .before .a .given .1) (opened o) (o .open-in .ensures)
+    start-going (start y .pre) (start y .args .s) (d .before .a .given .0 .0) (d .before .a .given .0 .1 .0) (d .before .a .given .0 .1 .1 .0) (d .before .a .given .0 .1 .1 .1 .0) (y .read-first .result) (y .read-first .ensures) (d .before .a .given .1) (opened o) (o .open-in .result) (o .open-in .ensures)
 
 returns : tie.Need-returns
 returns c =
@@ -63,7 +63,7 @@ returns-2 c =
     let o = c .before .before in
     let d = begun o in
     let y = points d in
-    start-gave (start y .pre) (start y .args .s) (d .before .a .given .0 .0) (d .before .a .given .0 .1 .0) (d .before .a .given .0 .1 .1 .0) (d .before .a .given .0 .1 .1 .1 .0) (y .read-first .result) (y .read-first .ensures) (d .before .a .given .1) (opened o) (o .open-in .ensures) (after c) (c .read-rest .result) (c .read-rest .ensures)
+    start-gave (start y .pre) (start y .args .s) (d .before .a .given .0 .0) (d .before .a .given .0 .1 .0) (d .before .a .given .0 .1 .1 .0) (d .before .a .given .0 .1 .1 .1 .0) (y .read-first .result) (y .read-first .ensures) (d .before .a .given .1) (opened o) (o .open-in .result) (o .open-in .ensures) (after c) (c .read-rest .result) (c .read-rest .ensures)
 
 pub read-points-spec : {M : Type 1} → statement M
 read-points-spec =

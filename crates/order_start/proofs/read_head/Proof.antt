@@ -4,6 +4,7 @@ use mathlib.Core.Path.{subst, sym, _∙_}
 use mathlib.Core.List.{List}
 use Rattle.records.specs.declared.Number.the-variants as number
 use Rattle.records.specs.Reading.{NumberRead}
+use Rattle.rules.specs.Records.{orderMark}
 use Rattle.order_start.specs.Heading.{ScaleRead}
 use Rattle.order_start.proofs.Heads.{bad-head, head-out, head-scale}
 use borrow.Author.Needs.{needs}
@@ -19,8 +20,8 @@ file d = d .before .before .args .f .now
 abbrev given : tie.After-known-told2 → ℕ
 given d = d .before .n .given .0 .0
 
-number-read : (d : tie.After-known-told2) → NumberRead (file (d .before .before .before)) 0 0x4844 (number.Given (given d))
-number-read d = subst (NumberRead (file (d .before .before .before)) 0 0x4844) (d .before .n .given .1) (d .before .before .before .read-number .ensures)
+number-read : (d : tie.After-known-told2) → NumberRead (file (d .before .before .before)) 0 orderMark (number.Given (given d))
+number-read d = subst (NumberRead (file (d .before .before .before)) 0 orderMark) (d .before .n .given .1) (d .before .before .before .read-number .ensures)
 
 read-number-requires : tie.Need-read-number-requires
 read-number-requires c κs = search needs
@@ -48,7 +49,7 @@ read-scale-requires c κs = number-read (c .before .before .before) .0
 returns-2 : tie.Need-returns-2
 returns-2 c =
     let d = c .before .before .before in
-    bad-head (file d) _ _ (subst (NumberRead (file d) 0 0x4844) (c .before .r .given .1) (d .read-number .ensures))
+    bad-head (file d) _ _ (subst (NumberRead (file d) 0 orderMark) (c .before .r .given .1) (d .read-number .ensures))
 
 returns-3 : tie.Need-returns-3
 returns-3 c =

@@ -1,6 +1,7 @@
 -- `order_start::read_scale` meets its contract.
 use mathlib.Core.Path.{refl, subst, sym, _∙_}
 use Rattle.records.specs.Reading.{NumberRead}
+use Rattle.rules.specs.Records.{scaleMark}
 use Rattle.order_start.proofs.Heads.{Marked, no-scale, other-mark, bad-scale, scale-out, scale-in}
 use mathlib.Core.List.{List}
 use Prim.Native.Nat.{ℕ}
@@ -22,9 +23,9 @@ marked d = record { room = d .before .before .if1 .left; mark = sym (d .before .
 abbrev given : tie.After-known-told2 → ℕ
 given d = d .before .s .given .0 .0
 
-number-read : (d : tie.After-known-told2) → NumberRead (file (d .before .before .before .before .before .before .before .before)) 4 0x5343 (number.Given (given d))
+number-read : (d : tie.After-known-told2) → NumberRead (file (d .before .before .before .before .before .before .before .before)) 4 scaleMark (number.Given (given d))
 number-read d =
-    subst (NumberRead (file (d .before .before .before .before .before .before .before .before)) 4 0x5343) (d .before .s .given .1) (d .before .before .before .read-number .ensures)
+    subst (NumberRead (file (d .before .before .before .before .before .before .before .before)) 4 scaleMark) (d .before .s .given .1) (d .before .before .before .read-number .ensures)
 
 returns : tie.Need-returns
 returns c = (refl, search needs, no-scale (file (c .before .before)) (c .if1 .taken))
@@ -58,7 +59,7 @@ broad-requires c κs = search needs
 returns-4 : tie.Need-returns-4
 returns-4 c =
     let d = c .before .before .before in
-    bad-scale (marked (d .before)) _ _ (subst (NumberRead (file (d .before .before .before .before .before)) 4 0x5343) (c .before .r .given .1) (d .read-number .ensures))
+    bad-scale (marked (d .before)) _ _ (subst (NumberRead (file (d .before .before .before .before .before)) 4 scaleMark) (c .before .r .given .1) (d .read-number .ensures))
 
 returns-5 : tie.Need-returns-5
 returns-5 c =

@@ -1,4 +1,4 @@
--- `order_writer::joined` meets its contract: what `split` gives has a point below 32768, and `join` puts it together.
+-- `order_writer::joined` meets its contract: what `split` gives has a point below the limit, and `join` puts it together.
 use mathlib.Core.Path.{_∙_, ap}
 use native.Mathlib.Omega.{arith}
 use borrow.Author.Needs.{needs}

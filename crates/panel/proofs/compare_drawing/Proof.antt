@@ -8,11 +8,8 @@ use Rattle.panel.specs.Files.{need-is, begins}
 use Rattle.panel.proofs.compare_drawing.Statement.{statement}
 use Rattle.panel.proofs.compare_drawing.Tie as tie
 
-mul-need : tie.Need-mul-need
-mul-need c = search needs
-
-sub-need : tie.Need-sub-need
-sub-need c = search needs
+drawing-length-requires : tie.Need-drawing-length-requires
+drawing-length-requires c κs = search needs
 
 slice-aggregate-put-drawing : tie.Need-slice-aggregate-put-drawing
 slice-aggregate-put-drawing c = search needs
@@ -25,24 +22,27 @@ array-share-prefix-drawn c = search needs
 
 slice-aggregate-compare : tie.Need-slice-aggregate-compare
 slice-aggregate-compare c =
-    let p = c .before .before .put-drawing .ensures in
-    let e = c .before .before .before .before .before .before .pre in
-    need-is (e .whole) (e .holds) ∙ sym (ap length (begins (e .whole) (e .holds) refl (p (e .d) (e .whole) (e .holds))))
+    let p = c .before .before in
+    let l = p .before .before in
+    let e = l .before .before .pre in
+    let n = l .drawing-length .ensures in
+    n ∙ need-is (e .whole) (e .holds) ∙ sym (ap length (begins (e .whole) (e .holds) refl (p .put-drawing .ensures (e .d) (e .whole) (e .holds)) n))
 
 compare-requires : tie.Need-compare-requires
 compare-requires c κs = search needs
 
 returns : tie.Need-returns
 returns c d w h =
-    let file = c .before .before .before .before .before .before .before .args .file .now in
-    c .compare .ensures ∙ ap (λ l. answer (compareBytes 0 file l)) (begins w h refl (c .before .before .before .put-drawing .ensures d w h))
+    let p = c .before .before .before in
+    let l = p .before .before in
+    let file = l .before .before .args .file .now in
+    c .compare .ensures ∙ ap (λ b. answer (compareBytes 0 file b)) (begins w h refl (p .put-drawing .ensures d w h) (l .drawing-length .ensures))
 
 pub compare-drawing-spec : {M : Type 1} → statement M
 compare-drawing-spec =
     tie.close
     (tie.spec
-    mul-need
-    sub-need
+    drawing-length-requires
     slice-aggregate-put-drawing
     put-drawing-requires
     array-share-prefix-drawn

@@ -1,4 +1,5 @@
 -- `panel::put_drawing` meets its contract: with its settled x the drawing is finished, and its bytes are written.
+use mathlib.Core.Path.{_∙_}
 use native.Mathlib.Omega.{arith}
 use Rattle.tables.specs.Tables.{table-long}
 use Rattle.drawing.specs.Places.{settleable}
@@ -8,11 +9,8 @@ use borrow.Author.Needs.{needs}
 use Rattle.panel.proofs.put_drawing.Statement.{statement}
 use Rattle.panel.proofs.put_drawing.Tie as tie
 
-mul-need : tie.Need-mul-need
-mul-need c = search needs
-
-sub-need : tie.Need-sub-need
-sub-need c = search needs
+drawing-length-requires : tie.Need-drawing-length-requires
+drawing-length-requires c κs = search needs
 
 returns : tie.Need-returns
 returns c d w h = let n = need-is w h in short _ _ (omega arith)
@@ -31,16 +29,16 @@ same-length c = search needs
 
 returns-2 : tie.Need-returns-2
 returns-2 c d w h =
-    let n = need-is w h in
     let t = c .before .before in
-    full _ _ _ _ (omega arith) n (t .write-drawing .ensures d (finish w h (t .before .before .before .before .settle .ensures)))
+    let s = t .before .before .before .before in
+    let n = s .before .before .before .before .drawing-length .ensures ∙ need-is w h in
+    full _ _ _ _ (omega arith) n (t .write-drawing .ensures d (finish w h (s .settle .ensures)))
 
 pub put-drawing-spec : {M : Type 1} → statement M
 put-drawing-spec =
     tie.close
     (tie.spec
-    mul-need
-    sub-need
+    drawing-length-requires
     returns
     settle-requires
     write-drawing-requires

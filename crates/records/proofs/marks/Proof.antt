@@ -6,9 +6,9 @@ use lib.ListN.{length}
 use borrow.Author.Needs.{needs}
 use Rattle.rules.specs.declared.Answer.the-variants.{Accepted}
 use Rattle.rules.specs.Refusals.{Result, _>>_, answer}
-use Rattle.rules.specs.Records.{several}
+use Rattle.rules.specs.Records.{several, bytesIn}
 use Rattle.records.specs.Cursors.{cursor, markAt, plainShape}
-use Rattle.records.specs.Marked.{bytesIn, recordTest, recordTests, several-answer, mark-refused, cut-off, stands}
+use Rattle.records.specs.Marked.{recordTest, recordTests, several-answer, mark-refused, cut-off, stands}
 use Rattle.records.proofs.Turns.{records-turn, records-over}
 use Rattle.records.proofs.marks.Statement.{statement}
 use Rattle.records.proofs.marks.Tie as tie

@@ -1,6 +1,6 @@
 -- `records::read_entries` meets its contract: each return is a case of reading the record.
 use mathlib.Core.Path.{_≡_, refl, sym, _∙_}
-use Rattle.rules.specs.Records.{pointEntries}
+use Rattle.rules.specs.Records.{pointEntries, entriesMark}
 use Rattle.rules.specs.declared.Answer.the-variants.{Accepted}
 use Rattle.rules.specs.Refusals.{answer}
 use Rattle.records.specs.Cursors.{markAt, unmarked, no-count, entries-short, entries-there}
@@ -9,7 +9,7 @@ use Rattle.records.proofs.read_entries.Statement.{statement}
 use Rattle.records.proofs.read_entries.Tie as tie
 
 -- the mark is there
-marked : (d : tie.After-enum-told) → let a = d .before .before .before .before .args in answer (markAt 0x5054 (a .f .now) (a .at)) ≡ Accepted
+marked : (d : tie.After-enum-told) → let a = d .before .before .before .before .args in answer (markAt entriesMark (a .f .now) (a .at)) ≡ Accepted
 marked d = sym (d .before .before .mark-at .ensures) ∙ d .enum-told .given .1
 
 mark-at-requires : tie.Need-mark-at-requires

@@ -4,6 +4,7 @@ use Prim.Native.Nat.{ℕ, suc, _+_, _-_, _<_, _≤_}
 use native.Mathlib.Omega.{arith}
 use lib.ListN.{getD, set}
 use borrow.Author.Needs.{needs}
+use Rattle.links.specs.Arrays.{gapOffset}
 use Rattle.settling.specs.Hang.{hang-free, hang-owned, hangs-owned}
 use Rattle.settling.proofs.hang_one.Statement.{statement}
 use Rattle.settling.proofs.hang_one.Tie as tie
@@ -18,7 +19,7 @@ owned c = omega (arith, c .before .broad .ensures, c .if1 .left)
 -- what the way to an owned point is known to be
 bounds : (c : tie.Else1) →
     let a = c .before .before .before .before .before .args in
-    (top c < 1024) × (32768 ≤ getD (a .x .now) (top c) 0 + getD (a .gap .now) (a .p) 0) × (getD (a .x .now) (top c) 0 + getD (a .gap .now) (a .p) 0 < 98304)
+    (top c < 1024) × (gapOffset ≤ getD (a .x .now) (top c) 0 + getD (a .gap .now) (a .p) 0) × (getD (a .x .now) (top c) 0 + getD (a .gap .now) (a .p) 0 < gapOffset + 65536)
 bounds c = let z = c .before .before .before in hangs-owned (z .before .before .args .gap .now) (z .before .before .args .p) (z .before .before .args .x .now) (owned c) (z .before .before .pre .4)
 
 mul-broad : tie.Need-mul-broad
@@ -82,7 +83,7 @@ returns-2 : tie.Need-returns-2
 returns-2 c =
     let d = c .before .before .before .before .before in
     let a = d .before .before .before .before .before .args in
-    ap (λ (v : ℕ). set (a .x .now) (a .p) v) (c .narrow .ensures ∙ ap (λ (v : ℕ). v - 32768) (summed (c .before))) ∙
+    ap (λ (v : ℕ). set (a .x .now) (a .p) v) (c .narrow .ensures ∙ ap (λ (v : ℕ). v - gapOffset) (summed (c .before))) ∙
     sym (hang-owned (a .gap .now) (a .p) (a .x .now) (owned d))
 
 pub hang-one-spec : {M : Type 1} → statement M

@@ -6,6 +6,7 @@ use native.Mathlib.Omega.{arith}
 use Rattle.links.specs.Placing.{way}
 use Rattle.links.specs.Storing.{coveredGaps, coveredOwners}
 use Rattle.tables.specs.Tables.{arraysIn, Keeps, arrays-read, gapR}
+use Rattle.links.specs.Arrays.{gapOffset}
 use Rattle.storing.specs.Stages.{covered}
 use Rattle.storing.proofs.Covering.{Turn, turn-low, turn-index, turn-way, turn-near, cover-more}
 use borrow.Author.Needs.{needs}
@@ -33,7 +34,7 @@ reached c =
     rw (c .broad .ensures, arrays-read gapR (b .loop .table) (d .point-of .result - 1) 0 (omega (arith, turn-index (turn d))), ap (λ a. a .gap) (b .loop .inv .3 .is)) (turn-way (turn d))
 
 -- which stays small
-near : (c : tie.After-broad Inv-loop μ-loop) → let b = c .before .before .before .before .before in b .loop .far + c .broad .result + b .before .before .before .args .p .s1 < 32768
+near : (c : tie.After-broad Inv-loop μ-loop) → let b = c .before .before .before .before .before in b .loop .far + c .broad .result + b .before .before .before .args .p .s1 < gapOffset
 near c = omega (arith, reached c, turn-near (turn (c .before .before)))
 
 sub-last : tie.Need-sub-last Inv-loop μ-loop

@@ -1,13 +1,14 @@
 -- `storing::push_lines` meets its contract: after i turns the lines of the entries 0 to i - 1 are there.
 use Prim.Native.Nat.{suc, _+_, _-_, _≤_, zero-le}
-use mathlib.Core.Path.{_≡_, refl, _∙_}
+use mathlib.Core.Path.{_≡_, refl, ap, _∙_}
 use lib.ListN.{length, length-set}
 use native.Mathlib.Numerals.{add-one}
 use native.Mathlib.Omega.{arith}
+use Rattle.links.specs.Codes.{bendCode}
 use Rattle.links.specs.Storing.{codeOf, filled}
 use Rattle.tables.specs.Tables.{arraysIn, Keeps}
 use Rattle.storing.specs.Stages.{lined}
-use Rattle.storing.proofs.Filling.{line-more}
+use Rattle.storing.proofs.Filling.{line-more, code-fits}
 use borrow.Author.Needs.{needs}
 use Rattle.storing.proofs.push_lines.Statement.{statement}
 use Rattle.storing.proofs.push_lines.Tie as tie
@@ -58,8 +59,14 @@ mul-table-3 c = search needs
 slice-write-table-2 : tie.Need-slice-write-table-2 Inv-loop μ-loop
 slice-write-table-2 c = simp length-set (omega arith)
 
-code-of-requires : tie.Need-code-of-requires Inv-loop μ-loop
-code-of-requires c κs = search needs
+new-bend-requires : tie.Need-new-bend-requires Inv-loop μ-loop
+new-bend-requires c κs = omega (arith, c .before .before .before .before .before .before .before .pre .0 .lines)
+
+bend-code-requires : tie.Need-bend-code-requires Inv-loop μ-loop
+bend-code-requires c κs =
+    let b = c .before .before .before in
+    let z = b .before .before .before .before .before in
+    rw (c .new-bend .ensures) (code-fits (z .args .rights) (z .args .lefts) _ (z .args .from) (b .loop .i) (z .pre .0 .right-code) (z .pre .0 .left-code) (omega (arith, z .pre .0 .lines)))
 
 add-table-3 : tie.Need-add-table-3 Inv-loop μ-loop
 add-table-3 c = search needs
@@ -78,12 +85,12 @@ loop-less c = search needs
 
 loop-again : tie.Need-loop-again Inv-loop μ-loop
 loop-again c =
-    let b = c .before .before .before in
+    let b = c .before .before .before .before in
     let l = b .loop in
     let z = b .before .before .before .before .before in (
       omega arith,
       simp length-set (l .inv .1),
-      line-more (l .table) (arraysIn (z .args .table .now)) (z .args .e .now) (z .args .c .lines) (b .before .narrow .result) (l .i) _ _ (l .inv .2) (omega (arith, z .pre .0 .lines)) (c .code-of .ensures),
+      line-more (l .table) (arraysIn (z .args .table .now)) (z .args .e .now) (z .args .c .lines) (b .before .narrow .result) (l .i) _ _ (l .inv .2) (omega (arith, z .pre .0 .lines)) (c .bend-code .ensures ∙ ap bendCode (c .before .new-bend .ensures)),
     )
 
 same-length : tie.Need-same-length Inv-loop μ-loop
@@ -116,7 +123,8 @@ push-lines-spec =
     add-table-2
     mul-table-3
     slice-write-table-2
-    code-of-requires
+    new-bend-requires
+    bend-code-requires
     add-table-3
     mul-table-4
     slice-write-table-3

@@ -1,8 +1,8 @@
--- `bends::bend_from` meets its contract: each return rewrites with the tests that led there.
+-- `links::bend_from` meets its contract: each return rewrites with the tests that led there.
 use borrow.Author.Tests.{le-leb, lt-leb}
-use Rattle.bends.specs.Codes.{bendFrom}
-use Rattle.bends.proofs.bend_from.Statement.{statement}
-use Rattle.bends.proofs.bend_from.Tie as tie
+use Rattle.links.specs.Codes.{bendFrom}
+use Rattle.links.proofs.bend_from.Statement.{statement}
+use Rattle.links.proofs.bend_from.Tie as tie
 
 returns : tie.Need-returns
 unfolding bendFrom
