@@ -1,6 +1,5 @@
 pub mod Outputs
 pub mod Files
 pub mod Reading
-pub mod Comparing
 pub mod Undrawing
 pub mod Finishing

@@ -110,26 +110,6 @@ pub fn draw(order: &[u8], out: &mut [u8]) -> Written
     }
 }
 
-// 11: the first byte where two files differ.
-fn compare(a: &[u8], b: &[u8]) -> Answer
-    ensures { λ r. ⌜ r ≡ answer (compareBytes 0 (now (a .entry)) (now (b .entry))) ⌝ }
-{
-    let mut i = 0;
-    while i < a.len() {
-        if b.len() <= i {
-            return Answer::Refused(Refusal::OtherDrawing, i);
-        }
-        if a[i] != b[i] {
-            return Answer::Refused(Refusal::OtherDrawing, i);
-        }
-        i += 1;
-    }
-    if i < b.len() {
-        return Answer::Refused(Refusal::OtherDrawing, i);
-    }
-    Answer::Accepted
-}
-
 // Compares a file with the drawing file of the finished drawing that the table holds.
 fn compare_drawing(file: &[u8], table: &Table, c: Counts) -> Answer
     requires { ⌜ Ended (arraysIn (now table)) c ⌝ }
@@ -138,7 +118,7 @@ fn compare_drawing(file: &[u8], table: &Table, c: Counts) -> Answer
     let mut drawn = [0u8; LONGEST_DRAWING];
     let need = drawing_length(c.n);
     put_drawing(&mut drawn, table, c);
-    compare(file, &drawn[..need])
+    comparing::compare(file, &drawn[..need])
 }
 
 // Reads a drawing file and gives its order file back, or the refusal of document 01.

@@ -1,13 +1,13 @@
--- `panel::compare` meets its contract. The loop's invariant: the answer is that of the bytes from i on.
+-- `comparing::compare_bytes` meets its contract. The loop's invariant: the answer is that of the bytes from i on.
 use Prim.Native.Nat.{_-_, _≤_}
 use mathlib.Core.Path.{_≡_, refl, _∙_}
 use native.Mathlib.Omega.{arith}
 use lib.ListN.{length}
 use borrow.Author.Needs.{needs}
 use Rattle.rules.specs.DrawingFile.{compareBytes}
-use Rattle.panel.specs.Comparing.{from, second-ended, first-ended, both-ended, differs, goes-on}
-use Rattle.panel.proofs.compare.Statement.{statement}
-use Rattle.panel.proofs.compare.Tie as tie
+use Rattle.comparing.specs.Comparing.{from, second-ended, first-ended, both-ended, differs, goes-on}
+use Rattle.comparing.proofs.compare_bytes.Statement.{statement}
+use Rattle.comparing.proofs.compare_bytes.Tie as tie
 
 abbrev Inv-loop : tie.InvT-loop
 Inv-loop a b i₀ i = (i ≤ length a) × (compareBytes 0 a b ≡ from a b i)
@@ -57,8 +57,8 @@ returns-4 c =
     let a = l .before .args in
     rw (l .loop .inv .1, both-ended (a .a .now) (a .b .now) (l .loop .i) (search needs) (search needs))
 
-pub compare-spec : {M : Type 1} → statement M
-compare-spec =
+pub compare-bytes-spec : {M : Type 1} → statement M
+compare-bytes-spec =
     tie.close
     (tie.spec
     Inv-loop
