@@ -11,9 +11,11 @@ use rules::Answer;
 use rules::DRAWING_MARK;
 use rules::DRAWING_NUMBERS;
 use rules::DRAWING_SIZE;
+use rules::FEWEST_POINTS;
 use rules::LINE_MARK;
 use rules::LINE_NUMBERS;
 use rules::LINE_SIZE;
+use rules::MOST_POINTS;
 use rules::PLACE_MARK;
 use rules::PLACE_NUMBERS;
 use rules::PLACE_SIZE;
@@ -47,7 +49,7 @@ fn judge_head(f: &[u8]) -> Answer
     let Answer::Accepted = head else {
         return head;
     };
-    if !lies(word_at(f, N_AT), 3, 1024) {
+    if !lies(word_at(f, N_AT), FEWEST_POINTS, MOST_POINTS) {
         return Answer::Refused(Refusal::OutOfRange, 0);
     }
     if !lies(word_at(f, S_AT), 1, 8) {

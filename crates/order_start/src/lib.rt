@@ -6,6 +6,8 @@ use records::Number;
 use records::lies;
 use records::read_entries;
 use records::read_number;
+use rules::FEWEST_POINTS;
+use rules::MOST_POINTS;
 use rules::NUMBER_SIZE;
 use rules::ORDER_MARK;
 use rules::Refusal;
@@ -82,7 +84,7 @@ pub fn read_head(f: &[u8]) -> Head
     match read_number(f, 0, ORDER_MARK) {
         Number::Refused(r, p) => Head::Refused(r, p),
         Number::Given(n) => {
-            if !lies(n, 3, 1024) {
+            if !lies(n, FEWEST_POINTS, MOST_POINTS) {
                 return Head::Refused(Refusal::OutOfRange, 0);
             }
             read_scale(f, broad(n))

@@ -133,11 +133,12 @@ pub fn read_end(f: &[u8], at: usize) -> Answer
 }
 
 // Whether v lies from low to high.
-pub fn lies(v: u16, low: u16, high: u16) -> bool
+pub fn lies(v: u16, low: usize, high: usize) -> bool
     ensures { λ r. ⌜ r ≡ between low high v ⌝ }
 {
-    if v < low {
+    let number = broad(v);
+    if number < low {
         return false;
     }
-    v <= high
+    number <= high
 }

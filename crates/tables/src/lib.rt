@@ -1,10 +1,11 @@
 // The one lent table that keeps a drawing, and where each of its regions starts: seven with a word for each point, three with a word for each line.
 // Crate `links` says what each of them holds.
+use rules::MOST_POINTS;
 
 // Room for so many points, and so many lines.
-pub const POINTS: usize = 1024;
+pub const POINTS: usize = MOST_POINTS;
 
-pub const LINES: usize = 3072;
+pub const LINES: usize = 3 * POINTS;
 
 pub const NEXT: usize = 0;
 
