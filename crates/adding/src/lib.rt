@@ -8,7 +8,6 @@ use rules::Refusal;
 use tables::DLS;
 use tables::DRS;
 use tables::GAP;
-use tables::HS;
 use tables::NEXT;
 use tables::OWNER;
 use tables::YS;

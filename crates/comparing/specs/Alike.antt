@@ -1,23 +1,16 @@
 -- Two files that are the same: tested from byte i on, and compared.
-use Prim.Native.Nat.{ℕ, suc, _+_, _<_, _≤_}
-use mathlib.Core.Path.{_≡_, refl, ap, sym, _∙_}
-use mathlib.Core.Bool.{Bool, true, false, _&&_, and-true, and-false, and-assoc}
-use mathlib.Core.List.{List, [], _∷_}
-use native.Mathlib.Omega.{arith}
+use Prim.Native.Nat.{ℕ, _+_, _<_, _≤_}
+use mathlib.Core.Path.{_≡_, ap, sym, _∙_}
+use mathlib.Core.Bool.{Bool, true, _&&_, and-true, and-assoc}
+use mathlib.Core.List.{List}
 use native.Mathlib.Numerals.{add-one}
 use lib.ListN.{length, getD, drop, drop-of-length-le}
 use lib.Seq.{drop-cons}
 use lib.Dec.{eqb}
 use Rattle.rules.specs.Basics.{same}
 use Rattle.rules.specs.Refusals.{good}
+use Rattle.rules.specs.Same.{same-is, compare-same}
 use Rattle.rules.specs.DrawingFile.{compareBytes}
-
--- files of different lengths aren't
-pub lengths-differ : (a b : List ℕ) → (length a ≡ length b → ⊥) → same a b ≡ false
-lengths-differ [] [] h = absurd (h refl)
-lengths-differ [] (y ∷ b) h = refl
-lengths-differ (x ∷ a) [] h = refl
-lengths-differ (x ∷ a) (y ∷ b) h = ap (λ t. eqb x y && t) (lengths-differ a b (λ e. h (ap suc e))) ∙ and-false (eqb x y)
 
 module _ (a b : List ℕ) (all : Bool) (i : ℕ) where
   -- one byte more
@@ -32,11 +25,4 @@ module _ (a b : List ℕ) (all : Bool) (i : ℕ) where
 
 -- no byte differs
 pub same-compared : (i : ℕ) (a b : List ℕ) → same a b ≡ true → compareBytes i a b ≡ good tt
-same-compared i [] [] h = refl
-same-compared i [] (y ∷ b) h = absurd (let z : _≡_ {A = ℕ} 0 1 = cc in omega arith)
-same-compared i (x ∷ a) [] h = absurd (let z : _≡_ {A = ℕ} 0 1 = cc in omega arith)
-same-compared i (x ∷ a) (y ∷ b) h = go (eqb x y) refl h (same-compared (suc i) a b)
-  where
-    go : (c : Bool) → eqb x y ≡ c → (c && same a b) ≡ true → (same a b ≡ true → compareBytes (suc i) a b ≡ good tt) → compareBytes i (x ∷ a) (y ∷ b) ≡ good tt
-    go true q h rest = rw q (rest h)
-    go false q h rest = absurd (let z : _≡_ {A = ℕ} 0 1 = cc in omega arith)
+same-compared i a b h = ap (λ l. compareBytes i l b) (same-is a b h) ∙ compare-same i b

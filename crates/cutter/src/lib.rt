@@ -3,8 +3,10 @@ use drawing::Drawing;
 use drawing::LineSeen;
 use drawing::Placed;
 use drawing::PointSeen;
+use links::Counts;
 use rules::Place;
 use rules::Refusal;
+use tables::POINTS;
 use tables::Table;
 use tables::WORDS;
 use tool::Checked;
@@ -17,10 +19,11 @@ ghost use lib.ListN.{getD};
 ghost use Rattle.rules.specs.Entries.{entryOf};
 ghost use Rattle.rules.specs.Points.{Drawing as Plan, placeOf, lineAt};
 ghost use Rattle.rules.specs.Moves.{Tool as WholeTool, lift, moveAt};
+ghost use Rattle.stored.specs.Adding.{Holds};
 ghost use Rattle.tables.specs.Tables.{arraysIn};
 ghost use Rattle.tool.specs.Checking.{wholeTool, toolOf, InRange};
 ghost use Rattle.drawing.specs.View.{Is, Came};
-ghost use Rattle.drawing.specs.Places.{IsPlaced};
+ghost use Rattle.drawing.specs.Places.{PlacedIn, IsPlaced};
 ghost use Rattle.cutter.specs.Numbering.{fiveOf};
 ghost use Rattle.cutter.specs.Cuts.{NthCut, cutsTo};
 ghost use Rattle.cutter.specs.Seen.{IsMove, MoveSeen, moveCount, countSeen};
@@ -81,48 +84,54 @@ fn cut_count(table: &Table, lines: usize) -> usize
 }
 
 // The place of a placed point.
-fn place_of(v: Placed, p: u16) -> Place
-    requires { ⌜ IsPlaced v × (1 ≤ p) × (p ≤ v .drawing .counts .k) ⌝ }
-    ensures { λ r. ⌜ ((q : Plan) → Is q (v .drawing) → r ≡ placeOf q p) ⌝ }
+fn place_of(table: &Table, x: &[u16; POINTS], c: Counts, p: u16) -> Place
+    requires { ⌜ PlacedIn c (now table) (now x) × (1 ≤ p) × (p ≤ c .k) ⌝ }
+    ensures { λ r. ⌜ ((q : Plan) → Holds q (arraysIn (now (table .entry))) c → r ≡ placeOf q p) ⌝ }
 {
-    let PointSeen::At(a) = drawing::point_at(v, words::broad(p)) else {
+    let PointSeen::At(a) = drawing::look_point(table, x, c, words::broad(p)) else {
         return Place { x: 0, y: 0 };
     };
     a
 }
 
-// Move `which`, from 0, of the five of line e, at the scale s.
-fn move_of(v: Placed, e: usize, which: usize, s: usize, t: Numbers) -> Move
-    requires { ⌜ IsPlaced v × (e < v .drawing .counts .lines) × (which < 5) × (s ≡ v .drawing .counts .s) × InRange t ⌝ }
-    ensures { λ r. ⌜ ((q : Plan) → Is q (v .drawing) → IsMove r (getD (fiveOf q (toolOf t) (lineAt q e)) which (lift 0))) ⌝ }
+// Move `which`, from 0, of the five of line e.
+fn move_of(table: &Table, x: &[u16; POINTS], c: Counts, e: usize, which: usize, t: Numbers) -> Move
+    requires { ⌜ PlacedIn c (now table) (now x) × (e < c .lines) × (which < 5) × InRange t ⌝ }
+    ensures { λ r. ⌜ ((q : Plan) → Holds q (arraysIn (now (table .entry))) c → IsMove r (getD (fiveOf q (toolOf t) (lineAt q e)) which (lift 0))) ⌝ }
 {
-    let LineSeen::Seen(l, bend) = drawing::line_at(v, e) else {
+    let LineSeen::Seen(l, bend) = drawing::look_line(table, x, c, e) else {
         return Move::Lift(0.0);
     };
-    let later = place_of(v, l.later);
-    let earlier = place_of(v, l.earlier);
-    tool::line_move(which, s, later, bend, earlier, t)
+    let later = place_of(table, x, c, l.later);
+    let earlier = place_of(table, x, c, l.earlier);
+    tool::line_move(which, c.s, later, bend, earlier, t)
 }
 
-// Move `number`, from 0, of the drawing's moves with this tool. Refusals in order: 12, 22, 23.
-// It takes the time of one pass over the lines: x is settled beforehand, once for all moves.
-pub fn move_at(v: Placed, t: Tool, number: usize) -> Moved
-    requires { ⌜ IsPlaced v ⌝ }
-    ensures { λ r. ⌜ ((q : Plan) → Is q (v .drawing) → MoveSeen r (moveAt q (wholeTool t) number)) ⌝ }
+// Move `number`, from 0, of the moves with this tool, from the lent table of a drawing and its settled x. Refusals in order: 12, 22, 23.
+pub fn look_move(table: &Table, x: &[u16; POINTS], c: Counts, t: Tool, number: usize) -> Moved
+    requires { ⌜ PlacedIn c (now table) (now x) ⌝ }
+    ensures { λ r. ⌜ ((q : Plan) → Holds q (arraysIn (now (table .entry))) c → MoveSeen r (moveAt q (wholeTool t) number)) ⌝ }
 {
     let Checked::Good(numbers) = tool::check_tool(t) else {
         return Moved::Refused(Refusal::BadTool, 0);
     };
-    let d = v.drawing;
-    let c = d.counts;
     if c.k < c.n {
         return Moved::Refused(Refusal::Unfinished, 0);
     }
-    let e = nth_cut(&d.table, c.lines, number / 5);
+    let e = nth_cut(table, c.lines, number / 5);
     if c.lines <= e {
         return Moved::Refused(Refusal::NoSuch, 0);
     }
-    Moved::Made(move_of(v, e, number % 5, c.s, numbers))
+    Moved::Made(move_of(table, x, c, e, number % 5, numbers))
+}
+
+// The same of a drawing by value. It takes the time of one pass over the lines: x is settled beforehand, once for all moves.
+pub fn move_at(v: Placed, t: Tool, number: usize) -> Moved
+    requires { ⌜ IsPlaced v ⌝ }
+    ensures { λ r. ⌜ ((q : Plan) → Is q (v .drawing) → MoveSeen r (moveAt q (wholeTool t) number)) ⌝ }
+{
+    let d = v.drawing;
+    look_move(&d.table, &v.x, d.counts, t, number)
 }
 
 // How many moves a finished drawing has, whatever the tool: five for each cut line.

@@ -30,10 +30,14 @@ and-both false b e = let z : false ≡ true = e in (z, cc)
 pub range : {k : ℕ} (p : ℕ) → between 1 k p ≡ true → (1 ≤ p) × (p ≤ k)
 range {k} p e = let b = and-both (leb 1 p) (leb p k) e in (leb-true 1 p (b .0), leb-true p k (b .1))
 
+-- counts and table are a drawing that came so, and x is settled
+pub record PlacedIn (c : Counts) (t x : List ℕ) : Type 0 where
+  pub came : Came (record { counts = c; table = t })
+  pub settled : Settled x (arraysIn t) (c .k)
+
 -- a drawing that came so, with its x settled
-pub record IsPlaced (v : Placed) : Type 0 where
-  pub came : Came (v .drawing)
-  pub settled : Settled (v .x) (arraysIn (v .drawing .table)) (v .drawing .counts .k)
+abbrev pub IsPlaced : Placed → Type 0
+IsPlaced v = PlacedIn (v .drawing .counts) (v .drawing .table) (v .x)
 
 -- The arrays of a drawing can be settled, from an array of zeros.
 pub settleable : {q : Plan} {a : Arrays} {c : Counts} → Holds q a c → Settleable noPoints a (c .k)

@@ -19,13 +19,14 @@ ghost use Rattle.rules.specs.Entries.{entryOf};
 ghost use Rattle.rules.specs.Points.{Drawing as Plan};
 ghost use Rattle.rules.specs.Lookups.{lookPoint, lookLine, LooksCut};
 ghost use Rattle.links.specs.Opening.{noPoints};
+ghost use Rattle.stored.specs.Adding.{Holds};
 ghost use Rattle.tables.specs.Tables.{arraysIn};
 ghost use Rattle.settling.specs.Placed.{Settleable, Settled};
 ghost use Rattle.drawing.specs.View.{Is, Came, pointSeen, lineSeen, sought};
 ghost use Rattle.drawing.specs.Opens.{blank, OpenFor, Opens};
 ghost use Rattle.drawing.specs.Cuts.{cutTo, FirstCut};
 ghost use Rattle.drawing.specs.Adds.{AddsTo};
-ghost use Rattle.drawing.specs.Places.{IsPlaced};
+ghost use Rattle.drawing.specs.Places.{PlacedIn, IsPlaced};
 
 // A drawing as the program keeps it: boundary links and gaps in one table (crate `links` says what each of its arrays holds).
 pub struct Drawing {
@@ -118,8 +119,8 @@ fn is_point(k: usize, p: usize) -> bool
     1 <= p && p <= k
 }
 
-// The x of every placed point.
-fn settled(table: &Table, k: usize) -> [u16; POINTS]
+// The x of every placed point, for `look_point` and `look_line`.
+pub fn settled(table: &Table, k: usize) -> [u16; POINTS]
     requires { ⌜ Settleable noPoints (arraysIn (now table)) k ⌝ }
     ensures { λ r. ⌜ Settled r (arraysIn (now (table .entry))) k ⌝ }
 {
@@ -138,21 +139,28 @@ pub fn settle(d: Drawing) -> Placed
     Placed { drawing: d, x }
 }
 
+// A point's place, from the lent table of a drawing and its settled x.
+pub fn look_point(table: &Table, x: &[u16; POINTS], c: Counts, p: usize) -> PointSeen
+    requires { ⌜ PlacedIn c (now table) (now x) ⌝ }
+    ensures { λ r. ⌜ ((q : Plan) → Holds q (arraysIn (now (table .entry))) c → r ≡ pointSeen (lookPoint q p)) ⌝ }
+{
+    if !is_point(c.k, p) {
+        return PointSeen::Refused(Refusal::NoSuch, 0);
+    }
+    let i = p - 1;
+    PointSeen::At(Place {
+        x: x[i],
+        y: table[YS + i],
+    })
+}
+
 // A point's place.
 pub fn point_at(v: Placed, p: usize) -> PointSeen
     requires { ⌜ IsPlaced v ⌝ }
     ensures { λ r. ⌜ ((q : Plan) → Is q (v .drawing) → r ≡ pointSeen (lookPoint q p)) ⌝ }
 {
     let d = v.drawing;
-    let k = d.counts.k;
-    if !is_point(k, p) {
-        return PointSeen::Refused(Refusal::NoSuch, 0);
-    }
-    let i = p - 1;
-    PointSeen::At(Place {
-        x: v.x[i],
-        y: d.table[YS + i],
-    })
+    look_point(&d.table, &v.x, d.counts, p)
 }
 
 // The same, where one look-up is enough.
@@ -163,24 +171,29 @@ pub fn point(d: Drawing, p: usize) -> PointSeen
     point_at(settle(d), p)
 }
 
+// A line with its ends, bend and cut flag, and where its bend lies, from the lent table of a drawing and its settled x.
+pub fn look_line(table: &Table, x: &[u16; POINTS], c: Counts, e: usize) -> LineSeen
+    requires { ⌜ PlacedIn c (now table) (now x) ⌝ }
+    ensures { λ r. ⌜ ((q : Plan) → Holds q (arraysIn (now (table .entry))) c → r ≡ lineSeen (lookLine q e)) ⌝ }
+{
+    if c.lines <= e {
+        return LineSeen::Refused(Refusal::NoSuch, 0);
+    }
+    let l = bends::line_in(table, e);
+    let to = words::broad(l.later);
+    let from = words::broad(l.earlier);
+    let b = l.bend;
+    let at = settling::bend_of(x, table, to, from, b);
+    LineSeen::Seen(l, at)
+}
+
 // A line with its ends, bend and cut flag, and where its bend lies.
 pub fn line_at(v: Placed, e: usize) -> LineSeen
     requires { ⌜ IsPlaced v ⌝ }
     ensures { λ r. ⌜ ((q : Plan) → Is q (v .drawing) → r ≡ lineSeen (lookLine q e)) ⌝ }
 {
     let d = v.drawing;
-    let c = d.counts;
-    if c.lines <= e {
-        return LineSeen::Refused(Refusal::NoSuch, 0);
-    }
-    let x = v.x;
-    let table = d.table;
-    let l = bends::line_in(&table, e);
-    let to = words::broad(l.later);
-    let from = words::broad(l.earlier);
-    let b = l.bend;
-    let at = settling::bend_of(&x, &table, to, from, b);
-    LineSeen::Seen(l, at)
+    look_line(&d.table, &v.x, d.counts, e)
 }
 
 // The same, where one look-up is enough.

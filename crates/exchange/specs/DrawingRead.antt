@@ -6,11 +6,12 @@ use mathlib.Core.List.{List, [], _∷_, _++_}
 use native.Mathlib.Omega.{arith}
 use lib.ListN.{length, getD, length-append}
 use lib.Dec.{eqb, leb}
-use borrow.Author.Tests.{eq-eqb, eqb-true, le-leb, leb-true, not-false}
+use borrow.Author.Tests.{eqb-true, le-leb, leb-true, not-false}
 use Rattle.rules.specs.declared.Entry.{Entry}
 use Rattle.rules.specs.declared.Refusal.the-variants.{OutOfRange, OtherDrawing}
 use Rattle.rules.specs.Basics.{between}
 use Rattle.rules.specs.Refusals.{good}
+use Rattle.rules.specs.Same.{compare-same}
 use Rattle.rules.specs.Points.{Drawing, m, W}
 use Rattle.rules.specs.Records.{written, readRecord, several, readEnd, fromStart, drawingHead, pointPlace, lineShape, endShape}
 use Rattle.rules.specs.RoundTrip.{length-bytes, record-back}
@@ -97,11 +98,6 @@ pub bytes-are : (d : Drawing) → drawingBytes d ≡
     (writtenAll lineShape (linesWords d (d .lines)) ++ written endShape []))
 unfolding drawingBytes
 bytes-are d = ap₂ (λ (v w : List ℕ). written drawingHead (headWords d) ++ (v ++ (w ++ written endShape []))) (points-are (d .s) (d .xs) (d .ys)) (lines-are d (d .lines))
-
--- a file is the same as itself
-compare-same : (i : ℕ) (bs : List ℕ) → compareBytes i bs bs ≡ good tt
-compare-same i [] = refl
-compare-same i (b ∷ bs) = goes-to (not (eqb b b)) OtherDrawing i _ _ (ap not (eq-eqb b b refl)) (compare-same (suc i) bs)
 
 -- files without a first differing byte are the same
 compare-equal : (i : ℕ) (cs bs : List ℕ) (u : Unit {0}) → compareBytes i cs bs ≡ good u → cs ≡ bs

@@ -1,19 +1,20 @@
 -- Several records written and read back; the groups of a built drawing's line records are its entries, so that judging them in turn builds the drawing again.
 use Prim.Native.Nat.{ℕ, zero, suc, _+_, _-_, _*_, _<_}
 use mathlib.Core.Path.{_≡_, refl, ap, ap₂, sym, _∙_, subst}
-use mathlib.Core.Bool.{Bool, true, false, not, _&&_, false≢true}
+use mathlib.Core.Bool.{Bool, true, false, not}
 use mathlib.Core.List.{List, [], _∷_, _++_, append-assoc, append-nil}
 use native.Mathlib.Nat.{zero-add, suc-mul}
 use native.Mathlib.Omega.{arith}
 use lib.ListN.{length, length-append}
 use lib.Dec.{eqb}
-use borrow.Author.Tests.{eq-eqb, ne-eqb, eqb-true, not-false}
+use borrow.Author.Tests.{eq-eqb, ne-eqb, not-false}
 use Rattle.rules.specs.declared.Line.{Line}
 use Rattle.rules.specs.declared.Entry.{Entry}
 use Rattle.rules.specs.declared.Bend.{Bend}
 use Rattle.rules.specs.declared.Bend.the-variants.{Straight}
 use Rattle.rules.specs.declared.Refusal.the-variants.{OtherStart}
 use Rattle.rules.specs.Basics.{if_then_else_, snoc, same}
+use Rattle.rules.specs.Same.{same-is}
 use Rattle.rules.specs.Refusals.{Result, good, _>>_, placed}
 use Rattle.rules.specs.Points.{Drawing}
 use Rattle.rules.specs.Adding.{pointsOf, addEntries, newLines, newBend}
@@ -224,17 +225,6 @@ module _ (n s : ℕ) (second third : List Entry) where
 
 -- ---- the groups of points 1 to 3
 
--- and one that passes it is the same
-pub is-same : (l k : List ℕ) → same l k ≡ true → l ≡ k
-is-same [] [] h = refl
-is-same [] (b ∷ k) h = absurd (false≢true h)
-is-same (a ∷ l) [] h = absurd (false≢true h)
-is-same (a ∷ l) (b ∷ k) h = go (eqb a b) refl h (is-same l k)
-  where
-    go : (c : Bool) → eqb a b ≡ c → (c && same l k) ≡ true → (same l k ≡ true → l ≡ k) → a ∷ l ≡ b ∷ k
-    go true e h rec = let p = eqb-true a b e in let q = rec h in cc
-    go false e h rec = absurd (false≢true h)
-
 -- entries that name one point
 one-entry : (p : ℕ) (es : List Entry) → pointsOf es ≡ p ∷ [] → es ≡ record { point = p; cut = cutAt 0 es } ∷ []
 one-entry p [] h = cc
@@ -310,7 +300,7 @@ pub record BuiltSo (n s : ℕ) (d : Drawing) : Type 0 where
 start-passed : {B : Type 0} (wanted : List ℕ) (es : List Entry) (place : ℕ) (t : Result B) (e : B) → (startTest wanted es place >> t) ≡ good e → (pointsOf es ≡ wanted) × (t ≡ good e)
 start-passed wanted es place t e h =
     let z = tested (not (same (pointsOf es) wanted)) OtherStart place t e h in
-    (is-same (pointsOf es) wanted (not-false (same (pointsOf es) wanted) (z .passed)), z .last)
+    (same-is (pointsOf es) wanted (not-false (same (pointsOf es) wanted) (z .passed)), z .last)
 
 -- a drawing that judging gives was built from the groups
 pub judged-built : (n s end : ℕ) (fs : List Found) (d : Drawing) → judgeLines n s end fs ≡ good d → BuiltSo n s d

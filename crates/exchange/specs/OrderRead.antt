@@ -5,11 +5,12 @@ use mathlib.Core.Bool.{Bool, true, false, not, _&&_, true≢false}
 use mathlib.Core.List.{List, [], _∷_, _++_, map, append-assoc, append-nil}
 use native.Mathlib.Omega.{arith}
 use lib.ListN.{length}
-use lib.Dec.{eqb, ltb, leb}
-use borrow.Author.Tests.{ltb-false, leb-true, eqb-true, ne-eqb, not-false}
+use lib.Dec.{ltb, leb}
+use borrow.Author.Tests.{ltb-false, leb-true, ne-eqb, not-false}
 use Rattle.rules.specs.declared.Entry.{Entry}
 use Rattle.rules.specs.declared.Refusal.the-variants.{OutOfRange, OtherStart, ExtraBytes}
 use Rattle.rules.specs.Basics.{if_then_else_, between, same, snoc}
+use Rattle.rules.specs.Same.{same-is}
 use Rattle.rules.specs.Refusals.{Result, good, _>>=_, _>>_, refuseIf, placed}
 use Rattle.rules.specs.Entries.{entryOf, wordOf}
 use Rattle.rules.specs.Points.{Drawing}
@@ -101,15 +102,6 @@ module _ (n s : ℕ) (second third : List Entry) where
       rest-more ess c at (f .value) e p (rest-read c (snoc ess es) (g .value) e (f .value .next) (p .rest) new (g .last))
 
 -- ---- all points
-
--- two lists that pass the test are the same
-same-is : (l m : List ℕ) → same l m ≡ true → l ≡ m
-same-is [] [] h = refl
-same-is [] (b ∷ m) h = absurd (true≢false (sym h))
-same-is (a ∷ l) [] h = absurd (true≢false (sym h))
-same-is (a ∷ l) (b ∷ m) h =
-    let t = and-true (eqb a b) (same l m) h in
-    ap₂ (λ (x : ℕ) (y : List ℕ). x ∷ y) (eqb-true a b (t .0)) (same-is l m (t .1))
 
 -- entries without a point
 no-points : (es : List Entry) → pointsOf es ≡ [] → es ≡ []

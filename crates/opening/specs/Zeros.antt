@@ -3,7 +3,7 @@ use Prim.Native.Nat.{ℕ, _+_, _-_, _≤_}
 use mathlib.Core.Path.{_≡_, sym, ap, _∙_}
 use mathlib.Core.List.{List}
 use native.Mathlib.Omega.{arith}
-use lib.ListN.{replicate, take, drop, length-replicate, replicate-append-replicate}
+use lib.ListN.{replicate, take, length-replicate, replicate-append-replicate}
 use lib.Seq.{take-at, drop-at}
 use Rattle.links.specs.Arrays.{arraysOf}
 use Rattle.links.specs.Opening.{noPoints, noLines}

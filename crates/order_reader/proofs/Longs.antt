@@ -9,10 +9,10 @@ use lib.Dec.{eqb}
 use borrow.Author.Tests.{le-leb, lt-leb, le-ltb}
 use Rattle.rules.specs.declared.Refusal.{Refusal}
 use Rattle.rules.specs.declared.Refusal.the-variants.{Finished, NoRun}
-use Rattle.rules.specs.Refusals.{Result, good, refused, _>>_, refuseIf}
+use Rattle.rules.specs.Refusals.{good, refused, _>>_, refuseIf}
 use Rattle.rules.specs.Entries.{entryOf}
-use Rattle.rules.specs.Points.{Drawing, m}
-use Rattle.rules.specs.Adding.{pointsOf, lOf, entryTests, runTests, judge, addEntries, add}
+use Rattle.rules.specs.Points.{Drawing}
+use Rattle.rules.specs.Adding.{pointsOf, lOf, runTests, judge, addEntries, add}
 use Rattle.links.specs.declared.Counts.{Counts}
 use Rattle.links.specs.Arrays.{Arrays}
 use Rattle.links.specs.Judging.{entriesPass}

@@ -1,16 +1,16 @@
 -- The records of points 1 to 3: what each test makes of them.
 use Prim.Native.Nat.{ℕ, suc, _+_}
 use mathlib.Core.Path.{_≡_, refl, ap, sym, _∙_}
-use mathlib.Core.Bool.{Bool, true, false, _&&_}
+use mathlib.Core.Bool.{false}
 use mathlib.Core.List.{List, [], _∷_, map}
 use native.Mathlib.Omega.{arith}
 use lib.ListN.{length, drop}
-use lib.Dec.{eqb}
 use borrow.Author.Tests.{eq-eqb, ne-eqb}
 use Rattle.rules.specs.declared.Entry.{Entry}
 use Rattle.rules.specs.declared.Refusal.{Refusal}
 use Rattle.rules.specs.declared.Refusal.the-variants.{OtherStart}
 use Rattle.rules.specs.Basics.{same}
+use Rattle.rules.specs.Same.{other-length}
 use Rattle.rules.specs.Refusals.{refused}
 use Rattle.rules.specs.Entries.{entryOf}
 use Rattle.rules.specs.Adding.{pointsOf}
@@ -24,18 +24,7 @@ use Rattle.order_start.specs.declared.Start.{Start}
 use Rattle.order_start.specs.declared.Start.the-variants as start
 use Rattle.order_start.specs.Starting.{thirdFrom, secondFrom, pointsFrom, Begun, StartRead}
 
--- lists of different length are not the same
-other-length : (l m : List ℕ) → (length l ≡ length m → ⊥) → same l m ≡ false
-other-length [] [] n = absurd (n refl)
-other-length [] (b ∷ m) n = refl
-other-length (a ∷ l) [] n = refl
-other-length (a ∷ l) (b ∷ m) n = go (eqb a b) (other-length l m (λ q. n (ap suc q)))
-  where
-    go : (t : Bool) → same l m ≡ false → (t && same l m) ≡ false
-    go true q = q
-    go false q = refl
-
--- nor are those of another count
+-- entries of another count are not the same
 count-points : (ws : List ℕ) → length (pointsOf (map entryOf ws)) ≡ length ws
 count-points [] = refl
 count-points (w ∷ ws) = ap suc (count-points ws)

@@ -15,7 +15,7 @@ ghost use mathlib.Core.List.{[], _∷_};
 ghost use lib.ListN.{length};
 ghost use Rattle.rules.specs.Points.{Drawing};
 ghost use Rattle.rules.specs.Records.{endMark};
-ghost use Rattle.rules.specs.OrderFile.{writeOrder};
+ghost use Rattle.rules.specs.OrderFile.{writeOrder, longestOrder};
 ghost use Rattle.links.specs.Arrays.{Stores};
 ghost use Rattle.tables.specs.Tables.{Full, arraysIn};
 ghost use Rattle.exchange.specs.Built.{Whole};
@@ -145,7 +145,8 @@ pub fn write_order(out: &mut [u8], table: &[u16], c: Counts) -> usize
 // How many bytes the order file of a finished drawing with these numbers has.
 pub fn order_length(c: Counts) -> usize
     requires { ⌜ (3 ≤ c .n) × (c .n ≤ 1024) ⌝ }
-    ensures { λ r. ⌜ ((d : Drawing) → Whole d → c .n ≡ d .n → c .s ≡ d .s → r ≡ length (writeOrder d)) ⌝ }
+    ensures exact { λ r. ⌜ ((d : Drawing) → Whole d → c .n ≡ d .n → c .s ≡ d .s → r ≡ length (writeOrder d)) ⌝ }
+    ensures within { λ r. ⌜ r ≤ longestOrder ⌝ }
 {
     let plain = 10 * c.n - 6;
     if c.s == 1 { plain } else { plain + NUMBER_SIZE }

@@ -17,7 +17,6 @@ use Rattle.exchange.specs.Demand2.{drawn-as}
 use Rattle.exchange.specs.WholeRead.{whole-read}
 use Rattle.order_reader.specs.Points.{Gave}
 use Rattle.drawing.specs.declared.Drawing.{Drawing}
-use Rattle.drawing.specs.declared.Done.{Done}
 use Rattle.tables.specs.Tables.{arraysIn}
 use Rattle.drawing.specs.View.{Is}
 use Rattle.drawing.specs.Opens.{blank, Gives}

@@ -136,7 +136,11 @@ fn move_from(done: Done, t: Tool, number: usize) -> Moved
     let answer = done.answer;
     match answer {
         Answer::Refused(r, p) => Moved::Refused(r, p),
-        Answer::Accepted => cutter::move_at(drawing::settle(d), t, number),
+        Answer::Accepted => {
+            let c = d.counts;
+            let x = drawing::settled(&d.table, c.k);
+            cutter::look_move(&d.table, &x, c, t, number)
+        }
     }
 }
 

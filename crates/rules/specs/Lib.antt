@@ -17,4 +17,5 @@ pub mod Moves
 pub mod Ten
 pub mod Cases
 pub mod Answers
+pub mod Same
 pub mod RoundTrip

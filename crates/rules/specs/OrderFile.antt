@@ -1,5 +1,5 @@
 -- "Order file": 48 44 and n; optionally a scale; n point records; 45 4E.
-use Prim.Native.Nat.{ℕ, zero, suc, _-_}
+use Prim.Native.Nat.{ℕ, zero, suc, _-_, _*_}
 use mathlib.Core.Bool.{Bool, true, not}
 use mathlib.Core.List.{List, [], _∷_, _++_, map}
 use lib.ListN.{getD}
@@ -91,6 +91,10 @@ orderPoints (suc c) p ls = written pointEntries (entriesOf p ls) ++ orderPoints 
 
 abbrev pub orderScale : ℕ → List ℕ
 orderScale s = if eqb s 1 then [] else written scaleShape (s ∷ [])
+
+-- "no accepted order file is longer than 10,238"
+abbrev pub longestOrder : ℕ
+longestOrder = 10 * mostPoints - 2
 
 -- the order file of a drawing
 unfoldable pub writeOrder : Drawing → List ℕ

@@ -1,5 +1,5 @@
 -- The bends that the arrays give are those of the drawing, and those of a sound drawing can be found.
-use Prim.Native.Nat.{ℕ, pred, _+_, _-_, _<_, _≤_}
+use Prim.Native.Nat.{ℕ, pred, _+_, _<_, _≤_}
 use mathlib.Core.Path.{_≡_, refl, sym, ap, _∙_}
 use mathlib.Core.List.{List}
 use native.Mathlib.Omega.{arith}

@@ -1,21 +1,20 @@
 -- The lines after an accepted call: the old ones as they were stored, and behind them one for each entry.
 use Prim.Native.Nat.{ℕ, zero, suc, pred, _+_, _-_, _<_}
 use mathlib.Core.Path.{_≡_, refl, ap, sym, _∙_}
-use mathlib.Core.Bool.{Bool, true, false}
+use mathlib.Core.Bool.{false}
 use mathlib.Core.List.{List, [], _∷_, _++_, map}
 use native.Mathlib.Nat.{le-of-suc-le-suc, not-suc-le-zero, add-zero, add-suc, suc-add, zero-add}
 use native.Mathlib.Omega.{arith}
 use native.Mathlib.Decide.{decLt}
 use lib.ListN.{length, getD, List·getD-append, length-map}
 use lib.Seq.{getD-append-add}
-use lib.Dec.{eqb}
 use Rattle.rules.specs.declared.Line.{Line}
 use Rattle.rules.specs.declared.Bend.{Bend}
-use Rattle.rules.specs.declared.Bend.the-variants.{Left, Right, Middle, Straight}
+use Rattle.rules.specs.declared.Bend.the-variants.{Straight}
 use Rattle.rules.specs.Basics.{if_then_else_, nth, grow}
 use Rattle.rules.specs.Points.{Drawing, dlOf, drOf, w, lineAt}
 use Rattle.rules.specs.Entries.{entryOf}
-use Rattle.rules.specs.Adding.{pointsOf, newLines, newBend, middleOf, D}
+use Rattle.rules.specs.Adding.{pointsOf, newLines, newBend, D}
 use Rattle.links.specs.declared.Spot.{Spot}
 use Rattle.links.specs.declared.Counts.{Counts}
 use Rattle.links.specs.Codes.{bendCode}

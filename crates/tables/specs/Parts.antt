@@ -1,9 +1,9 @@
 -- A part of a list, and the list with another part in its place, which is what a lent part leaves when it comes back.
 use Prim.Native.Nat.{ℕ, _+_, _-_, _<_, _≤_}
-use mathlib.Core.Path.{_≡_, refl, sym, ap, _∙_}
+use mathlib.Core.Path.{_≡_, sym, ap, _∙_}
 use mathlib.Core.List.{List, _++_}
 use native.Mathlib.Omega.{arith}
-use lib.ListN.{length, length-append, length-take, length-drop, getD, take, drop, set, take-append-drop}
+use lib.ListN.{length, length-append, length-drop, getD, take, drop, set, take-append-drop}
 use lib.Seq.{length-take-le, take-append-le, drop-append-le, drop-append-add, drop-drop, take-at, drop-at, take-set-le, drop-set-lt, take-set-lt, drop-set-add, getD-take, getD-drop}
 
 -- `count` elements from index `from` on
@@ -16,11 +16,6 @@ patched from count t l = take from t ++ (l ++ drop count (drop from t))
 
 pub length-part : (from count : ℕ) (t : List ℕ) → from + count ≤ length t → length (part from count t) ≡ count
 length-part from count t h = length-take-le count (drop from t) (omega (arith, length-drop from t))
-
-pub length-patched : (from count : ℕ) (t l : List ℕ) → from + count ≤ length t → length l ≡ count → length (patched from count t l) ≡ length t
-length-patched from count t l h e =
-    rw (length-append (take from t) (l ++ drop count (drop from t)), length-append l (drop count (drop from t)), length-take-le from t (omega arith), length-drop count (drop from t), length-drop from t)
-    (omega arith)
 
 -- ---- a part of a list that comes back
 

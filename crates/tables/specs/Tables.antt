@@ -62,17 +62,18 @@ tableSize = from 10
 abbrev pub Full : List ℕ → Type 0
 Full t = tableSize ≤ length t
 
+-- the arrays that a table keeps
 unfoldable pub arraysIn : List ℕ → Arrays
 arraysIn t =
-    arraysOf (region t 0) (region t 1) (region t 2) (region t 3) (region t 4) (region t 5) (region t 6)
-    (region t 7) (region t 8) (region t 9)
+    arraysOf (region t nextR) (region t gapR) (region t ownerR) (region t ysR) (region t dlsR) (region t drsR) (region t hsR)
+    (region t wordsR) (region t laterR) (region t bendsR)
 
 -- the arrays with the list of region r changed by g
 abbrev pub changed : ℕ → (List ℕ → List ℕ) → Arrays → Arrays
 changed r g a =
     let by : ℕ → List ℕ → List ℕ = λ q l. if eqb q r then g l else l in
-    arraysOf (by 0 (a .next)) (by 1 (a .gap)) (by 2 (a .owner)) (by 3 (a .ys)) (by 4 (a .dls)) (by 5 (a .drs)) (by 6 (a .hs))
-    (by 7 (a .words)) (by 8 (a .later)) (by 9 (a .bends))
+    arraysOf (by nextR (a .next)) (by gapR (a .gap)) (by ownerR (a .owner)) (by ysR (a .ys)) (by dlsR (a .dls)) (by drsR (a .drs)) (by hsR (a .hs))
+    (by wordsR (a .words)) (by laterR (a .later)) (by bendsR (a .bends))
 
 -- ---- the laws
 
@@ -143,16 +144,16 @@ unfolding arraysIn
 sized t h =
     let long : (r : ℕ) → from r + size r ≤ tableSize → length (region t r) ≡ size r = λ r k. length-part (from r) (size r) t (omega arith) in
     record {
-      next = long 0 (omega arith);
-      gap = long 1 (omega arith);
-      owner = long 2 (omega arith);
-      ys = long 3 (omega arith);
-      dls = long 4 (omega arith);
-      drs = long 5 (omega arith);
-      hs = long 6 (omega arith);
-      words = long 7 (omega arith);
-      later = long 8 (omega arith);
-      bends = long 9 (omega arith);
+      next = long nextR (omega arith);
+      gap = long gapR (omega arith);
+      owner = long ownerR (omega arith);
+      ys = long ysR (omega arith);
+      dls = long dlsR (omega arith);
+      drs = long drsR (omega arith);
+      hs = long hsR (omega arith);
+      words = long wordsR (omega arith);
+      later = long laterR (omega arith);
+      bends = long bendsR (omega arith);
     }
 
 pub region-long : (r : ℕ) (t : List ℕ) → from r + size r ≤ length t → length (region t r) ≡ size r
@@ -160,7 +161,7 @@ region-long r t h = length-part (from r) (size r) t h
 
 pub table-long : (t : List ℕ) → Sized (arraysIn t) → Full t
 unfolding arraysIn
-table-long t s = omega (arith, s .bends, length-take 3072 (drop 13312 t), length-drop 13312 t)
+table-long t s = omega (arith, s .bends, length-take (size bendsR) (drop (from bendsR) t), length-drop (from bendsR) t)
 
 -- ---- the whole table
 

@@ -1,12 +1,13 @@
 -- `comparing::alike` meets its contract. The loop's invariant: the files are the same if all bytes so far are, and those from i on.
 use Prim.Native.Nat.{_-_, _≤_}
-use mathlib.Core.Path.{_≡_, refl, sym, ap, _∙_}
+use mathlib.Core.Path.{_≡_, refl, sym, _∙_}
 use mathlib.Core.Bool.{_&&_}
 use native.Mathlib.Omega.{arith}
 use lib.ListN.{length, drop}
 use borrow.Author.Needs.{needs}
 use Rattle.rules.specs.Basics.{same}
-use Rattle.comparing.specs.Alike.{lengths-differ, byte-same, none-left}
+use Rattle.rules.specs.Same.{other-length}
+use Rattle.comparing.specs.Alike.{byte-same, none-left}
 use Rattle.comparing.proofs.alike.Statement.{statement}
 use Rattle.comparing.proofs.alike.Tie as tie
 
@@ -17,7 +18,7 @@ abbrev μ-loop : tie.MeasureT-loop
 μ-loop a b all₀ i₀ i-end all i = length a - i
 
 returns : tie.Need-returns Inv-loop μ-loop
-returns c = let a = c .before .before .before .args in sym (lengths-differ (a .a .now) (a .b .now) (c .if1 .taken))
+returns c = let a = c .before .before .before .args in sym (other-length (a .a .now) (a .b .now) (c .if1 .taken))
 
 loop-holds : tie.Need-loop-holds Inv-loop μ-loop
 loop-holds c = (omega arith, c .if1 .left, refl)

@@ -5,15 +5,16 @@ use native.Mathlib.Omega.{arith}
 use Rattle.rules.specs.declared.Line.{Line}
 use Rattle.rules.specs.Points.{Drawing as Plan, placeOf, lineAt}
 use Rattle.rules.specs.Ports.{bendPlace}
-use Rattle.drawing.specs.View.{Is}
+use Rattle.stored.specs.Adding.{Holds}
+use Rattle.tables.specs.Tables.{arraysIn}
 use Rattle.cutter.specs.Grid.{scale, point-on-grid, bend-on-grid, later-there, earlier-there, line-seen, line-sure}
 use Rattle.cutter.specs.Seen.{line-moved}
 use borrow.Author.Needs.{needs}
 use Rattle.cutter.proofs.move_of.Statement.{statement}
 use Rattle.cutter.proofs.move_of.Tie as tie
 
-line-at-requires : tie.Need-line-at-requires
-line-at-requires c κs = search needs
+look-line-requires : tie.Need-look-line-requires
+look-line-requires c κs = search needs
 
 enum-known-l : tie.Need-enum-known-l
 enum-known-l c = search needs
@@ -25,20 +26,20 @@ returns : tie.Need-returns
 returns c =
     let l = c .before .before in
     let o = l .before in
-    λ q h. absurd (line-sure h (o .args .e) (o .pre .1) (l .line-at .result) (l .line-at .ensures q h) _ _ (c .enum-told .given .1))
+    λ q h. absurd (line-sure h (o .args .e) (o .pre .1) (l .look-line .result) (l .look-line .ensures q h) _ _ (c .enum-told .given .1))
 
 -- the line that was seen, and its bend
-seen : (c : tie.After-l) (q : Plan) → Is q (c .before .before .before .args .v .drawing) →
+seen : (c : tie.After-l) (q : Plan) → Holds q (arraysIn (c .before .before .before .args .table .now)) (c .before .before .before .args .c) →
     (c .l .given .0 .0 ≡ lineAt q (c .before .before .before .args .e)) × (c .l .given .0 .1 .0 ≡ bendPlace q (lineAt q (c .before .before .before .args .e)))
 seen c q h =
     let l = c .before .before in
     let o = l .before in
-    line-seen h (o .args .e) (o .pre .1) (l .line-at .result) (l .line-at .ensures q h) _ _ (c .l .given .1)
+    line-seen h (o .args .e) (o .pre .1) (l .look-line .result) (l .look-line .ensures q h) _ _ (c .l .given .1)
 
 -- its ends are points
 ends : (c : tie.After-l) →
     let l = c .l .given .0 .0 in
-    let k = c .before .before .before .args .v .drawing .counts .k in
+    let k = c .before .before .before .args .c .k in
     (1 ≤ l .later) × (l .later ≤ k) × (1 ≤ l .earlier) × (l .earlier ≤ k)
 ends c =
     let o = c .before .before .before in
@@ -55,11 +56,11 @@ place-of-requires-2 : tie.Need-place-of-requires-2
 place-of-requires-2 c κs = let e = ends (c .before .before) in (c .before .before .before .before .before .pre .0, omega arith, omega arith)
 
 -- the places of its ends
-later-at : (c : tie.After-place-of) (q : Plan) → Is q (c .before .before .before .before .before .args .v .drawing) →
+later-at : (c : tie.After-place-of) (q : Plan) → Holds q (arraysIn (c .before .before .before .before .before .args .table .now)) (c .before .before .before .before .before .args .c) →
     c .place-of .result ≡ placeOf q (lineAt q (c .before .before .before .before .before .args .e) .later)
 later-at c q h = c .place-of .ensures q h ∙ ap (λ (l : Line). placeOf q (l .later)) (seen (c .before .before) q h .0)
 
-earlier-at : (c : tie.After-place-of2) (q : Plan) → Is q (c .before .before .before .before .before .before .args .v .drawing) →
+earlier-at : (c : tie.After-place-of2) (q : Plan) → Holds q (arraysIn (c .before .before .before .before .before .before .args .table .now)) (c .before .before .before .before .before .before .args .c) →
     c .place-of2 .result ≡ placeOf q (lineAt q (c .before .before .before .before .before .before .args .e) .earlier)
 earlier-at c q h = c .place-of2 .ensures q h ∙ ap (λ (l : Line). placeOf q (l .earlier)) (seen (c .before .before .before) q h .0)
 
@@ -73,11 +74,11 @@ line-move-requires c κs =
     let t = later-there h e (o .pre .1) in
     let u = earlier-there h e (o .pre .1) in (
       o .pre .2,
-      omega (arith, scale (o .pre .0 .came), o .pre .3),
+      omega (arith, scale (o .pre .0 .came)),
       rw (later-at (p .before) _ h) (point-on-grid h _ (t .0) (t .1)),
       rw (seen l _ h .1) (bend-on-grid h e (o .pre .1)),
       rw (earlier-at p _ h) (point-on-grid h _ (u .0) (u .1)),
-      o .pre .4,
+      o .pre .3,
     )
 
 returns-2 : tie.Need-returns-2
@@ -86,13 +87,13 @@ returns-2 c =
     let l = p .before .before .before in
     let o = l .before .before .before in
     λ q h.
-    line-moved q (o .args .t) (lineAt q (o .args .e)) (o .args .which) (c .line-move .result) (o .pre .3 ∙ h .stores .s) (later-at (p .before) q h) (seen l q h .1) (earlier-at p q h) (c .line-move .ensures)
+    line-moved q (o .args .t) (lineAt q (o .args .e)) (o .args .which) (c .line-move .result) (h .stores .s) (later-at (p .before) q h) (seen l q h .1) (earlier-at p q h) (c .line-move .ensures)
 
 pub move-of-spec : {M : Type 1} → statement M
 move-of-spec =
     tie.close
     (tie.spec
-    line-at-requires
+    look-line-requires
     enum-known-l
     enum-told
     returns

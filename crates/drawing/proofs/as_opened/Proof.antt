@@ -1,6 +1,5 @@
 -- `as_opened` meets its contract: the table is opened by the core.
 use mathlib.Core.Path.{refl}
-use borrow.Author.Needs.{needs}
 use Rattle.drawing.proofs.as_opened.Statement.{statement}
 use Rattle.drawing.proofs.as_opened.Tie as tie
 

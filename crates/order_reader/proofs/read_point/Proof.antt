@@ -1,6 +1,6 @@
 -- `order_reader::read_point` meets its contract: the record, then the answer of the call, or the refusal of a record that is too long for one.
-use Prim.Native.Nat.{ℕ, _+_, _*_, _≤_}
-use mathlib.Core.Path.{_≡_, subst, sym}
+use Prim.Native.Nat.{_+_, _*_, _≤_}
+use mathlib.Core.Path.{subst, sym}
 use lib.ListN.{length}
 use lib.Seq.{length-take-le}
 use Rattle.tables.specs.Tables.{table-long}

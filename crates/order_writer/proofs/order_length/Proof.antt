@@ -17,14 +17,12 @@ add-result : tie.Need-add-result
 add-result c = search needs
 
 returns : tie.Need-returns
-returns c d w n s =
-    let e : scaleBytes (d .s) ≡ 0 = ap scaleBytes (sym s) ∙ rw (eq-eqb _ _ (c .if1 .taken)) in
-    omega (arith, order-size d w, e, n)
+returns c =
+    (λ d w n s. let e : scaleBytes (d .s) ≡ 0 = ap scaleBytes (sym s) ∙ rw (eq-eqb _ _ (c .if1 .taken)) in omega (arith, order-size d w, e, n), search needs)
 
 returns-2 : tie.Need-returns-2
-returns-2 c d w n s =
-    let e : scaleBytes (d .s) ≡ 4 = ap scaleBytes (sym s) ∙ rw (ne-eqb _ _ (c .if1 .left)) in
-    omega (arith, order-size d w, e, n)
+returns-2 c =
+    (λ d w n s. let e : scaleBytes (d .s) ≡ 4 = ap scaleBytes (sym s) ∙ rw (ne-eqb _ _ (c .if1 .left)) in omega (arith, order-size d w, e, n), search needs)
 
 pub order-length-spec : {M : Type 1} → statement M
 order-length-spec = tie.close (tie.spec mul-plain sub-plain add-result returns returns-2)

@@ -1,6 +1,7 @@
 -- `move_from` meets its contract.
-use mathlib.Core.Path.{refl, sym, subst}
-use Rattle.drawing.specs.View.{Is}
+use mathlib.Core.Path.{refl}
+use Rattle.drawing.specs.View.{Came}
+use Rattle.drawing.specs.Places.{settleable}
 use borrow.Author.Needs.{needs}
 use Rattle.panel_c.proofs.move_from.Statement.{statement}
 use Rattle.panel_c.proofs.move_from.Tie as tie
@@ -11,22 +12,27 @@ enum-known-answer c = search needs
 enum-told : tie.Need-enum-told
 enum-told c = search needs
 
-settle-requires : tie.Need-settle-requires
-settle-requires c κs = c .before .before .before .pre (c .enum-told .given .1)
+-- the drawing came so
+came : (d : tie.After-enum-told) → Came (d .before .before .before .args .done .drawing)
+came d = d .before .before .before .pre (d .enum-told .given .1)
 
-move-at-requires : tie.Need-move-at-requires
-move-at-requires c κs = search needs
+settled-requires : tie.Need-settled-requires
+settled-requires c κs = settleable (came (c .before .before .before) .is)
+
+look-move-requires : tie.Need-look-move-requires
+look-move-requires c κs =
+    let s = c .before .before .before in
+    record { came = came (s .before .before .before .before); settled = s .settled .ensures }
 
 returns : tie.Need-returns
 returns c = λ q is. rw (c .before .answer .given .1) (refl, refl)
 
 returns-2 : tie.Need-returns-2
 returns-2 c =
-    let s = c .before in
-    let e = s .before .enum-told .given .1 in
-    λ q is. rw e (c .move-at .ensures q (subst (Is q) (sym (s .settle .ensures .0)) (is e)))
+    let e = c .before .before .before .before .before .before .before .before .enum-told .given .1 in
+    λ q is. rw e (c .look-move .ensures q (is e))
 
 pub move-from-spec : {M : Type 1} → statement M
 move-from-spec =
     tie.close
-    (tie.spec enum-known-answer enum-told settle-requires move-at-requires returns returns-2)
+    (tie.spec enum-known-answer enum-told settled-requires look-move-requires returns returns-2)

@@ -1,7 +1,7 @@
 -- `storing::cover` meets its contract: after i turns the entries 1 to i are covered.
 use Prim.Native.Nat.{_+_, _-_, _≤_, _<_, zero-le}
 use mathlib.Core.Path.{_≡_, refl, ap, _∙_}
-use lib.ListN.{length, length-set, getD}
+use lib.ListN.{length, length-set}
 use native.Mathlib.Omega.{arith}
 use Rattle.links.specs.Placing.{way}
 use Rattle.links.specs.Storing.{coveredGaps, coveredOwners}

@@ -1,5 +1,5 @@
 -- `storing::push_lines` meets its contract: after i turns the lines of the entries 0 to i - 1 are there.
-use Prim.Native.Nat.{suc, _+_, _-_, _≤_, zero-le}
+use Prim.Native.Nat.{suc, _-_, _≤_, zero-le}
 use mathlib.Core.Path.{_≡_, refl, ap, _∙_}
 use lib.ListN.{length, length-set}
 use native.Mathlib.Numerals.{add-one}
