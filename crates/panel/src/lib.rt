@@ -72,16 +72,23 @@ pub fn drawing_of(order: &[u8]) -> Done
     Done { answer, drawing }
 }
 
-// The drawing file of a drawing: 22 while it is unfinished, 24 where the buffer is short.
+// The drawing file of the drawing in the lent table: 22 while it is unfinished, 24 where the buffer is short.
+pub fn write_file(out: &mut [u8], table: &Table, c: Counts) -> Written
+    requires { ⌜ Came (record { counts = c; table = now table }) ⌝ }
+    ensures { λ r. ⌜ ((q : Plan) → Reached q → Holds q (arraysIn (now (table .entry))) c → Wrote (now (out .entry)) (writeDrawing q) (now (out .exit)) r) ⌝ }
+{
+    if c.k < c.n {
+        return Written::Refused(Refusal::Unfinished, 0);
+    }
+    put_drawing(out, table, c)
+}
+
+// The drawing file of a drawing by value.
 pub fn drawing_file(d: Drawing, out: &mut [u8]) -> Written
     requires { ⌜ Came d ⌝ }
     ensures { λ r. ⌜ ((q : Plan) → Reached q → Is q d → Wrote (now (out .entry)) (writeDrawing q) (now (out .exit)) r) ⌝ }
 {
-    let c = d.counts;
-    if c.k < c.n {
-        return Written::Refused(Refusal::Unfinished, 0);
-    }
-    put_drawing(out, &d.table, c)
+    write_file(out, &d.table, d.counts)
 }
 
 // Its order file, in the same manner.

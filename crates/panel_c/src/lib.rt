@@ -90,7 +90,7 @@ pub extern "C" fn panel_calls(
     let Answer::Accepted = answer else {
         return count(nothing(answer), refusal);
     };
-    let written = panel::drawing_file(d, out);
+    let written = panel::write_file(out, &d.table, d.counts);
     count(written, refusal)
 }
 

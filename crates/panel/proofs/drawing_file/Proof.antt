@@ -1,24 +1,16 @@
--- `panel::drawing_file` meets its contract.
-use Rattle.panel.specs.Outputs.{turned}
-use Rattle.panel.specs.Finishing.{early, late, whole-late, ended-late}
+-- `panel::drawing_file` meets its contract: the file of its table is its own.
 use borrow.Author.Needs.{needs}
 use Rattle.panel.proofs.drawing_file.Statement.{statement}
 use Rattle.panel.proofs.drawing_file.Tie as tie
 
-returns : tie.Need-returns
-returns c q r t = rw (early t _ (c .if1 .taken)) (turned _ _ _)
-
-put-drawing-requires : tie.Need-put-drawing-requires
-put-drawing-requires c κs = ended-late (c .before .before .before .before .before .before .before .pre) (search needs)
+write-file-requires : tie.Need-write-file-requires
+write-file-requires c κs = search needs
 
 same-length : tie.Need-same-length
 same-length c = search needs
 
-returns-2 : tie.Need-returns-2
-returns-2 c q r t =
-    let p = c .before .before in
-    let h = p .before .before .before .before .if1 .left in
-    rw (late t _ h) (p .put-drawing .ensures _ (whole-late t r h) t)
+returns : tie.Need-returns
+returns c = search needs
 
 pub drawing-file-spec : {M : Type 1} → statement M
-drawing-file-spec = tie.close (tie.spec returns put-drawing-requires same-length returns-2)
+drawing-file-spec = tie.close (tie.spec write-file-requires same-length returns)

@@ -27,8 +27,10 @@ returns c =
     let n = c .before .before in
     turned-away _ _ (n .before .before .before .before .before .before .run .ensures) (n .before .enum-told2 .given .1) (n .nothing .ensures) (c .count .ensures .0) (c .count .ensures .1)
 
-drawing-file-requires : tie.Need-drawing-file-requires
-drawing-file-requires c κs = came-ran (c .before .before .before .before .before .before .run .ensures) (c .before .enum-told .given .1)
+write-file-requires : tie.Need-write-file-requires
+write-file-requires c κs =
+    let e = c .before .before .before .before in
+    came-ran (e .before .before .before .before .before .run .ensures) (e .enum-told .given .1)
 
 count-requires-2 : tie.Need-count-requires-2
 count-requires-2 c κs = search needs
@@ -42,10 +44,11 @@ same-length-3 c = search needs
 returns-2 : tie.Need-returns-2
 returns-2 c =
     let f = c .before .before .before .before in
-    let t = f .before .before .before .before .before .before .before .run .ensures in
-    let h = f .before .before .enum-told .given .1 in
+    let e = f .before .before .before .before .before in
+    let t = e .before .before .before .before .before .run .ensures in
+    let h = e .enum-told .given .1 in
     let d = drew t h in
-    went-through t h (f .drawing-file .ensures _ (d .0) (d .1)) (c .count2 .ensures .0) (c .count2 .ensures .1)
+    went-through t h (f .write-file .ensures _ (d .0) (d .1)) (c .count2 .ensures .0) (c .count2 .ensures .1)
 
 pub panel-calls-spec : {M : Type 1} → statement M
 panel-calls-spec =
@@ -58,7 +61,7 @@ panel-calls-spec =
     count-requires
     same-length
     returns
-    drawing-file-requires
+    write-file-requires
     count-requires-2
     same-length-2
     same-length-3
