@@ -1,5 +1,6 @@
 /* What target/staticlib/libpanel_c.a offers to C; `rt staticlib panel_c` makes it.
-   Every function puts number and place of a refusal into `refusal`, 0 and 0 for none. A refusal changes no byte of `out`. */
+   Every function puts number and place of a refusal into `refusal`, 0 and 0 for none. A refusal changes no byte of `out`.
+   No heap; at most 80 KB of stack, the same for every n. */
 #ifndef PANEL_H
 #define PANEL_H
 #include <stddef.h>

@@ -8,20 +8,20 @@ use lib.ListN.{length}
 use Rattle.rules.specs.declared.Answer.the-variants.{Accepted, Refused}
 use Rattle.rules.specs.declared.Refusal.the-variants.{OutOfRange, OutputShort}
 use Rattle.rules.specs.Calls.{drawn}
+use Rattle.links.specs.declared.Added.{Added}
 use Rattle.links.specs.declared.Counts.{Counts}
 use Rattle.links.specs.Arrays.{Arrays}
-use Rattle.links.specs.Opening.{openArrays, openCounts}
+use Rattle.links.specs.Opening.{openArrays, openCounts, noCounts}
 use Rattle.promise.specs.Bounds.{standing-start}
 use Rattle.promise.specs.Theorem.{demand-3}
 use Rattle.exchange.specs.Reaching.{reached-drawn}
 use Rattle.stored.specs.Opened.{sized-open, stores-open}
-use Rattle.drawing.specs.declared.Drawing.{Drawing}
-use Rattle.drawing.specs.declared.Done.{Done}
 use Rattle.drawing.specs.Opens.{blank}
+use Rattle.opening.specs.Zeros.{zeros}
 use Rattle.tables.specs.Tables.{arraysIn}
 use Rattle.calls.specs.Lists.{callsIn}
 use Rattle.calls.specs.Turns.{Begun, Ended, Runs}
-use Rattle.calls.specs.Ran.{Refuses, Ran}
+use Rattle.calls.specs.Ran.{doneIn, Refuses, Ran}
 
 -- The arrays and the numbers as opened hold the drawing as opened.
 pub begun : {n : ℕ} {ws out : List ℕ} (a : Arrays) (c : Counts) → Runs n ws out → (a ≡ openArrays 1 1 2) × (c ≡ openCounts n 1) → Begun (c .n) ws out a c
@@ -41,27 +41,32 @@ begun {n} a c h is =
 pub ended-for : {n : ℕ} {c k : Counts} {ws out out′ : List ℕ} {a : Arrays} → c ≡ openCounts n 1 → Ended (c .n) ws out a k out′ → Ended n ws out a k out′
 ended-for {k = k} {ws} {out} {out′} {a} is h = subst (λ (n : ℕ). Ended n ws out a k out′) (ap (λ (c : Counts). c .n) is) h
 
-module _ {n : ℕ} {ws before : List ℕ} {r : Done} where
+-- Numbers and table are those of no drawing.
+nothing : (r : Added) (t : List ℕ) → r .counts ≡ noCounts → t ≡ zeros → doneIn r t .drawing ≡ blank
+unfolding blank
+nothing r t e z = λ i. record { counts = e i; table = z i }
+
+module _ {n : ℕ} {ws before t : List ℕ} {r : Added} where
   -- n is out of range.
-  pub out-of-range : (3 ≤ n → n ≤ 1024 → ⊥) → (r .answer ≡ Refused OutOfRange 0) × (r .drawing ≡ blank) → Ran n ws before before r
-  out-of-range h e =
-      let no : Refuses OutOfRange before before r = record { answer = e .0; buffer = refl; drawing = e .1 } in
+  pub out-of-range : (3 ≤ n → n ≤ 1024 → ⊥) → (r .answer ≡ Refused OutOfRange 0) × (r .counts ≡ noCounts) → t ≡ zeros → Ran n ws before before (doneIn r t)
+  out-of-range h e z =
+      let no : Refuses OutOfRange before before (doneIn r t) = record { answer = e .0; buffer = refl; drawing = nothing r t (e .1) z } in
       record { low = λ l. no; high = λ l. no; short = λ l u s. absurd (h l u); enough = λ l u s. absurd (h l u) }
 
   -- The buffer is too short.
-  pub too-short : 3 ≤ n → n ≤ 1024 → length before < 2 * length (callsIn ws) → (r .answer ≡ Refused OutputShort 0) × (r .drawing ≡ blank) → Ran n ws before before r
-  too-short low high h e =
+  pub too-short : 3 ≤ n → n ≤ 1024 → length before < 2 * length (callsIn ws) → (r .answer ≡ Refused OutputShort 0) × (r .counts ≡ noCounts) → t ≡ zeros → Ran n ws before before (doneIn r t)
+  too-short low high h e z =
       record {
         low = λ l. absurd (omega arith);
         high = λ l. absurd (omega arith);
-        short = λ l u s. record { answer = e .0; buffer = refl; drawing = e .1 };
+        short = λ l u s. record { answer = e .0; buffer = refl; drawing = nothing r t (e .1) z };
         enough = λ l u s. absurd (omega arith);
       }
 
 -- Every call was made.
-pub accepted : {n : ℕ} {ws before after : List ℕ} {d : Drawing} → Runs n ws before → Ended n ws before (arraysIn (d .table)) (d .counts) after →
-    Ran n ws before after (record { answer = Accepted; drawing = d })
-accepted {n} {ws} h e =
+pub accepted : {n : ℕ} {ws before after : List ℕ} (t : List ℕ) {c : Counts} → Runs n ws before → Ended n ws before (arraysIn t) c after →
+    Ran n ws before after (record { answer = Accepted; drawing = record { counts = c; table = t } })
+accepted {n} {ws} t h e =
     record {
       low = λ l. absurd (omega (arith, h .low));
       high = λ l. absurd (omega (arith, h .high));

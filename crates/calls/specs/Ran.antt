@@ -8,10 +8,15 @@ use Rattle.rules.specs.declared.Refusal.{Refusal}
 use Rattle.rules.specs.declared.Refusal.the-variants.{OutOfRange, OutputShort}
 use Rattle.rules.specs.Calls.{drawn, said}
 use Rattle.promise.specs.Promise.{Promise}
+use Rattle.links.specs.declared.Added.{Added}
 use Rattle.drawing.specs.declared.Done.{Done}
 use Rattle.drawing.specs.Opens.{blank}
 use Rattle.drawing.specs.View.{Is, Came}
 use Rattle.calls.specs.Lists.{callsIn, wordsOf}
+
+-- what was answered, with the drawing of the numbers and the table
+abbrev pub doneIn : Added → List ℕ → Done
+doneIn r t = record { answer = r .answer; drawing = record { counts = r .counts; table = t } }
 
 -- refused: no word of the buffer changes
 pub record Refuses (why : Refusal) (before after : List ℕ) (r : Done) : Type 0 where

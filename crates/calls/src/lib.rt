@@ -1,6 +1,7 @@
 // A whole list of calls in one function: document 01's demand 3 as one claim about the program.
 use drawing::Done;
 use drawing::Drawing;
+use links::Added;
 use links::Counts;
 use rules::Answer;
 use rules::FEWEST_POINTS;
@@ -12,10 +13,11 @@ ghost use mathlib.Core.Path.{_≡_};
 ghost use Prim.Native.Nat.{_+_, _<_};
 ghost use lib.ListN.{length, set};
 ghost use Rattle.tables.specs.Tables.{arraysIn};
-ghost use Rattle.drawing.specs.Opens.{blank};
+ghost use Rattle.links.specs.Opening.{noCounts};
+ghost use Rattle.opening.specs.Zeros.{zeros};
 ghost use Rattle.calls.specs.Lists.{callsIn, placeIn, withAnswer};
 ghost use Rattle.calls.specs.Turns.{endOf, Callable, Made, Begun, Ended, Runs};
-ghost use Rattle.calls.specs.Ran.{Ran};
+ghost use Rattle.calls.specs.Ran.{doneIn, Ran};
 
 // Where the call whose count stands at `at` ends: behind its entries, or where the words end.
 fn end_of(calls: &[u16], at: usize) -> usize
@@ -100,30 +102,29 @@ fn all_calls(table: &mut Table, opened: Counts, calls: &[u16], answers: &mut [u1
     counts
 }
 
-// Opens a drawing for n points and makes all calls on it, with their answers in the buffer.
-fn draw_calls(n: usize, calls: &[u16], answers: &mut [u16]) -> Drawing
-    requires { ⌜ Runs n (now calls) (now answers) ⌝ }
-    ensures { λ r. ⌜ Ended n (now (calls .entry)) (now (answers .entry)) (arraysIn (r .table)) (r .counts) (now (answers .exit)) ⌝ }
+// Opens a drawing for n points in a table of zeros and makes all calls on it, with their answers in the buffer; gives the numbers after them.
+fn draw_calls(table: &mut Table, n: usize, calls: &[u16], answers: &mut [u16]) -> Counts
+    requires { ⌜ Runs n (now calls) (now answers) × (now table ≡ zeros) ⌝ }
+    ensures { λ r. ⌜ Ended n (now (calls .entry)) (now (answers .entry)) (arraysIn (now (table .exit))) r (now (answers .exit)) ⌝ }
 {
-    let mut table = [0u16; END];
-    let opened = opening::open_in(&mut table, n, 1, 1, 1, 2);
-    let counts = all_calls(&mut table, opened, calls, answers);
-    Drawing { counts, table }
+    let opened = opening::open_in(table, n, 1, 1, 1, 2);
+    all_calls(table, opened, calls, answers)
 }
 
 // A refusal: no drawing, every number 0.
-fn refuse(why: Refusal) -> Done
-    ensures { λ r. ⌜ (r .answer ≡ Answer.Refused why 0) × (r .drawing ≡ blank) ⌝ }
+fn refuse(why: Refusal) -> Added
+    ensures { λ r. ⌜ (r .answer ≡ Answer.Refused why 0) × (r .counts ≡ noCounts) ⌝ }
 {
-    Done {
+    Added {
         answer: Answer::Refused(why, 0),
-        drawing: drawing::no_drawing(),
+        counts: links::no_counts(),
     }
 }
 
-// Makes the calls that the words hold on a drawing opened for n points; each answer takes two words of the buffer.
-pub fn run(n: usize, calls: &[u16], answers: &mut [u16]) -> Done
-    ensures { λ r. ⌜ Ran n (now (calls .entry)) (now (answers .entry)) (now (answers .exit)) r ⌝ }
+// Makes the calls that the words hold on a drawing opened for n points, in a table of zeros; each answer takes two words of the buffer.
+pub fn run_in(table: &mut Table, n: usize, calls: &[u16], answers: &mut [u16]) -> Added
+    requires { ⌜ now table ≡ zeros ⌝ }
+    ensures { λ r. ⌜ Ran n (now (calls .entry)) (now (answers .entry)) (now (answers .exit)) (doneIn r (now (table .exit))) ⌝ }
 {
     if n < FEWEST_POINTS {
         return refuse(Refusal::OutOfRange);
@@ -135,9 +136,21 @@ pub fn run(n: usize, calls: &[u16], answers: &mut [u16]) -> Done
     if answers.len() < needed {
         return refuse(Refusal::OutputShort);
     }
-    let drawing = draw_calls(n, calls, answers);
-    Done {
+    let counts = draw_calls(table, n, calls, answers);
+    Added {
         answer: Answer::Accepted,
-        drawing,
+        counts,
     }
+}
+
+// The same, with the drawing by value.
+pub fn run(n: usize, calls: &[u16], answers: &mut [u16]) -> Done
+    ensures { λ r. ⌜ Ran n (now (calls .entry)) (now (answers .entry)) (now (answers .exit)) r ⌝ }
+{
+    let mut table = [0u16; END];
+    let made = run_in(&mut table, n, calls, answers);
+    let answer = made.answer;
+    let counts = made.counts;
+    let drawing = Drawing { counts, table };
+    Done { answer, drawing }
 }

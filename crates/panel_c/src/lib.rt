@@ -1,10 +1,12 @@
 // What C and Rust call: numbers, slices and arrays only, and no `requires`.
 // Each call puts number and place of a refusal into two words, 0 and 0 for none.
 use cutter::Moved;
-use drawing::Done;
+use links::Counts;
 use panel::Written;
 use rules::Answer;
 use rules::Refusal;
+use tables::END;
+use tables::Table;
 use tool::Move;
 use tool::Tool;
 ghost use mathlib.Core.Path.{_≡_};
@@ -13,7 +15,9 @@ ghost use Rattle.rules.specs.declared.Answer.the-variants.{Accepted};
 ghost use Rattle.rules.specs.Refusals.{number};
 ghost use Rattle.rules.specs.Points.{Drawing as Plan};
 ghost use Rattle.rules.specs.DrawingFile.{drawFile, orderBack};
-ghost use Rattle.drawing.specs.View.{Is, Came};
+ghost use Rattle.stored.specs.Adding.{Holds};
+ghost use Rattle.tables.specs.Tables.{arraysIn};
+ghost use Rattle.drawing.specs.View.{Came};
 ghost use Rattle.cutter.specs.Seen.{MoveSeen};
 ghost use Rattle.panel_c.specs.Exported.{countOf, refusalOf, nothingFor, Exported, CallsExported};
 ghost use Rattle.panel_c.specs.Moving.{kindOf, numbersOf, placeOf, moveFrom, MoveExported, CallsMoveExported};
@@ -84,13 +88,13 @@ pub extern "C" fn panel_calls(
         CallsExported n (now (calls .entry)) (now (answers .entry)) (now (answers .exit)) (now (out .entry)) (now (out .exit)) r (now (refusal .exit))
         ⌝ }
 {
-    let done = calls::run(n, calls, answers);
-    let d = done.drawing;
-    let answer = done.answer;
+    let mut table = [0u16; END];
+    let made = calls::run_in(&mut table, n, calls, answers);
+    let answer = made.answer;
     let Answer::Accepted = answer else {
         return count(nothing(answer), refusal);
     };
-    let written = panel::write_file(out, &d.table, d.counts);
+    let written = panel::write_file(out, &table, made.counts);
     count(written, refusal)
 }
 
@@ -127,19 +131,16 @@ fn tell(moved: Moved, at: &mut [f32; 2], refusal: &mut [u64; 2]) -> u64
     }
 }
 
-// A move of the drawing that goes with an answer, or that answer's refusal.
-fn move_from(done: Done, t: Tool, number: usize) -> Moved
-    requires { ⌜ (done .answer ≡ Accepted → Came (done .drawing)) ⌝ }
-    ensures { λ r. ⌜ ((q : Plan) → (done .answer ≡ Accepted → Is q (done .drawing)) → MoveSeen r (moveFrom (done .answer) q t number)) ⌝ }
+// A move of the drawing in the lent table, where it goes with an accepting answer, or that answer's refusal.
+fn move_from(answer: Answer, table: &Table, c: Counts, t: Tool, number: usize) -> Moved
+    requires { ⌜ (answer ≡ Accepted → Came (record { counts = c; table = now table })) ⌝ }
+    ensures { λ r. ⌜ ((q : Plan) → (answer ≡ Accepted → Holds q (arraysIn (now (table .entry))) c) → MoveSeen r (moveFrom answer q t number)) ⌝ }
 {
-    let d = done.drawing;
-    let answer = done.answer;
     match answer {
         Answer::Refused(r, p) => Moved::Refused(r, p),
         Answer::Accepted => {
-            let c = d.counts;
-            let x = drawing::settled(&d.table, c.k);
-            cutter::look_move(&d.table, &x, c, t, number)
+            let x = drawing::settled(table, c.k);
+            cutter::look_move(table, &x, c, t, number)
         }
     }
 }
@@ -165,7 +166,9 @@ pub extern "C" fn panel_move(
         depth,
         clearance,
     };
-    let moved = move_from(done, t, number);
+    let d = done.drawing;
+    let answer = done.answer;
+    let moved = move_from(answer, &d.table, d.counts, t, number);
     tell(moved, at, refusal)
 }
 
@@ -186,11 +189,14 @@ pub extern "C" fn panel_calls_move(
         CallsMoveExported n (now (calls .entry)) (now (answers .entry)) (now (answers .exit)) (record { pitch = pitch; depth = depth; clearance = clearance }) number (now (at .entry)) (now (at .exit)) r (now (refusal .exit))
         ⌝ }
 {
-    let done = calls::run(n, calls, answers);
+    let mut table = [0u16; END];
+    let made = calls::run_in(&mut table, n, calls, answers);
     let t = Tool {
         pitch,
         depth,
         clearance,
     };
-    tell(move_from(done, t, number), at, refusal)
+    let answer = made.answer;
+    let moved = move_from(answer, &table, made.counts, t, number);
+    tell(moved, at, refusal)
 }

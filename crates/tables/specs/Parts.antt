@@ -3,7 +3,7 @@ use Prim.Native.Nat.{ℕ, _+_, _-_, _<_, _≤_}
 use mathlib.Core.Path.{_≡_, sym, ap, _∙_}
 use mathlib.Core.List.{List, _++_}
 use native.Mathlib.Omega.{arith}
-use lib.ListN.{length, length-append, length-drop, getD, take, drop, set, take-append-drop}
+use lib.ListN.{length, length-drop, getD, take, drop, set, take-append-drop}
 use lib.Seq.{length-take-le, take-append-le, drop-append-le, drop-append-add, drop-drop, take-at, drop-at, take-set-le, drop-set-lt, take-set-lt, drop-set-add, getD-take, getD-drop}
 
 -- `count` elements from index `from` on

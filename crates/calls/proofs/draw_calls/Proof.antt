@@ -5,12 +5,12 @@ use Rattle.calls.proofs.draw_calls.Statement.{statement}
 use Rattle.calls.proofs.draw_calls.Tie as tie
 
 open-in-requires : tie.Need-open-in-requires
-open-in-requires c κs = search needs
+open-in-requires c κs = c .before .before .before .pre .1
 
 all-calls-requires : tie.Need-all-calls-requires
 all-calls-requires c κs =
     let o = c .before .before in
-    begun _ _ (o .before .before .before .before .pre) (o .open-in .ensures)
+    begun _ _ (o .before .before .before .before .pre .0) (o .open-in .ensures)
 
 same-length : tie.Need-same-length
 same-length c = search needs

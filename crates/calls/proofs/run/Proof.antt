@@ -1,56 +1,17 @@
--- `calls::run` meets its contract: each return is one of the outcomes.
-use native.Mathlib.Omega.{arith}
-use Rattle.calls.specs.Rests.{calls-most}
-use Rattle.calls.proofs.Outcomes.{out-of-range, too-short, accepted}
+-- `calls::run` meets its contract: a new table is of zeros, and the drawing is what it holds then.
+use mathlib.Core.Path.{refl}
 use borrow.Author.Needs.{needs}
 use Rattle.calls.proofs.run.Statement.{statement}
 use Rattle.calls.proofs.run.Tie as tie
 
-refuse-requires : tie.Need-refuse-requires
-refuse-requires c κs = search needs
-
-returns : tie.Need-returns
-returns c = out-of-range (λ l u. omega arith) (c .refuse .ensures)
-
-refuse-requires-2 : tie.Need-refuse-requires-2
-refuse-requires-2 c κs = search needs
-
-returns-2 : tie.Need-returns-2
-returns-2 c = out-of-range (λ l u. omega arith) (c .refuse2 .ensures)
-
-count-calls-requires : tie.Need-count-calls-requires
-count-calls-requires c κs = search needs
-
-mul-needed : tie.Need-mul-needed
-mul-needed c = omega (arith, calls-most (c .before .before .before .before .before .args .calls .now))
-
-refuse-requires-3 : tie.Need-refuse-requires-3
-refuse-requires-3 c κs = search needs
-
-returns-3 : tie.Need-returns-3
-returns-3 c = too-short (omega arith) (omega arith) (omega arith) (c .refuse3 .ensures)
-
-draw-calls-requires : tie.Need-draw-calls-requires
-draw-calls-requires c κs = search needs
+run-in-requires : tie.Need-run-in-requires
+run-in-requires c κs = refl
 
 same-length : tie.Need-same-length
 same-length c = search needs
 
-returns-4 : tie.Need-returns-4
-returns-4 c = accepted (record { low = omega arith; high = omega arith; room = omega arith }) (c .before .before .draw-calls .ensures)
+returns : tie.Need-returns
+returns c = search needs
 
 pub run-spec : {M : Type 1} → statement M
-run-spec =
-    tie.close
-    (tie.spec
-    refuse-requires
-    returns
-    refuse-requires-2
-    returns-2
-    count-calls-requires
-    mul-needed
-    refuse-requires-3
-    returns-3
-    draw-calls-requires
-    same-length
-    returns-4)
+run-spec = tie.close (tie.spec run-in-requires same-length returns)

@@ -13,23 +13,23 @@ enum-told : tie.Need-enum-told
 enum-told c = search needs
 
 -- the drawing came so
-came : (d : tie.After-enum-told) → Came (d .before .before .before .args .done .drawing)
-came d = d .before .before .before .pre (d .enum-told .given .1)
+came : (d : tie.After-enum-told) → Came (record { counts = d .before .before .args .c; table = d .before .before .args .table .now })
+came d = d .before .before .pre (d .enum-told .given .1)
 
 settled-requires : tie.Need-settled-requires
-settled-requires c κs = settleable (came (c .before .before .before) .is)
+settled-requires c κs = settleable (came c .is)
 
 look-move-requires : tie.Need-look-move-requires
 look-move-requires c κs =
-    let s = c .before .before .before in
-    record { came = came (s .before .before .before .before); settled = s .settled .ensures }
+    let s = c .before in
+    record { came = came (s .before); settled = s .settled .ensures }
 
 returns : tie.Need-returns
 returns c = λ q is. rw (c .before .answer .given .1) (refl, refl)
 
 returns-2 : tie.Need-returns-2
 returns-2 c =
-    let e = c .before .before .before .before .before .before .before .before .enum-told .given .1 in
+    let e = c .before .before .before .enum-told .given .1 in
     λ q is. rw e (c .look-move .ensures q (is e))
 
 pub move-from-spec : {M : Type 1} → statement M

@@ -1,14 +1,16 @@
 -- `panel_calls_move` meets its contract.
+use mathlib.Core.Path.{refl}
+use Rattle.calls.specs.Ran.{doneIn}
 use Rattle.panel_c.specs.Exported.{drew, came-ran}
 use borrow.Author.Needs.{needs}
 use Rattle.panel_c.proofs.panel_calls_move.Statement.{statement}
 use Rattle.panel_c.proofs.panel_calls_move.Tie as tie
 
-run-requires : tie.Need-run-requires
-run-requires c κs = search needs
+run-in-requires : tie.Need-run-in-requires
+run-in-requires c κs = refl
 
 move-from-requires : tie.Need-move-from-requires
-move-from-requires c κs = λ e. came-ran (c .before .before .run .ensures) e
+move-from-requires c κs = λ e. came-ran (c .before .before .before .run-in .ensures) e
 
 tell-requires : tie.Need-tell-requires
 tell-requires c κs = search needs
@@ -19,10 +21,10 @@ same-length c = search needs
 returns : tie.Need-returns
 returns c =
     let m = c .before .before .before in
-    let ran = m .before .before .before .run in
+    let ran = m .before .before .before .before .run-in in
     let t = c .tell .ensures in
     record {
-      done = ran .result;
+      done = doneIn (ran .result) _;
       ran = ran .ensures;
       told =
           record {
@@ -36,4 +38,4 @@ returns c =
 
 pub panel-calls-move-spec : {M : Type 1} → statement M
 panel-calls-move-spec =
-    tie.close (tie.spec run-requires move-from-requires tell-requires same-length returns)
+    tie.close (tie.spec run-in-requires move-from-requires tell-requires same-length returns)
