@@ -23,6 +23,9 @@ use Rattle.stored.specs.Reading.{run-size}
 use Rattle.stored.specs.Spots.{Bounded, bounded, spot-h}
 use Rattle.stored.specs.Step.{lines-fit}
 use Rattle.judging.specs.Passed.{within-up}
+use Rattle.placing.specs.declared.Ports.{Ports}
+use Rattle.placing.specs.declared.Ports.the-variants as Ports
+use Rattle.placing.specs.Ports.{portsFor, from-told, none-told}
 use Rattle.placing.specs.Small.{Small}
 use Rattle.storing.specs.Storable.{Storable}
 use Rattle.adding.specs.Calls.{Ready, Answered, Runs}
@@ -140,17 +143,24 @@ pub refused-early : (a : Arrays) (c : Counts) (es : List ℕ) (v : Answer) (f : 
 refused-early a c es v f p said is = stays a c es v f p is (judged-by a c es (refused f p) (refused-is (tests a c es) f p (sym said ∙ is)))
 
 module _ (a : Arrays) (c : Counts) (es : List ℕ) (o : Spot) (all-good : tests a c es ≡ good tt) (at : o ≡ spotFor a es) where
-  -- 25 by the spot that the code computed
-  reach-by : (b : Bool) → b ≡ allReachFrom o (a .gap) (a .ys) es 1 (innerCount es) → judged a c es ≡ refuseIf (not b) NoReach 0
-  reach-by b e = judged-by a c es (good tt) all-good ∙ rw (e, at)
+  -- where the ports change, and 25, by the spot that the code computed
+  abbrev pub change : ℕ
+  change = changeFrom o (a .gap) (a .ys) es 1 (innerCount es)
+
+  abbrev pub all : Bool
+  all = allReachFrom o (a .gap) (a .ys) es 1 (innerCount es)
+
+  reach-by : (b : Bool) → all ≡ b → judged a c es ≡ refuseIf (not b) NoReach 0
+  reach-by b e = judged-by a c es (good tt) all-good ∙ rw (sym e, at)
 
   -- 25 refuses.
-  pub refused-late : (b : Bool) → b ≡ allReachFrom o (a .gap) (a .ys) es 1 (innerCount es) → b ≡ false → Answered a c es a (record { answer = Refused NoReach 0; counts = c })
-  refused-late b e f = stays a c es (Refused NoReach 0) NoReach 0 refl (reach-by b e ∙ rw f)
+  pub refused-late : (r : Ports) → r ≡ portsFor change all → r ≡ Ports.NoReach → Answered a c es a (record { answer = Refused NoReach 0; counts = c })
+  refused-late r e q = stays a c es (Refused NoReach 0) NoReach 0 refl (reach-by false (none-told change all (sym e ∙ q)))
 
   -- The call is accepted.
-  pub taken : (b : Bool) → b ≡ allReachFrom o (a .gap) (a .ys) es 1 (innerCount es) → b ≡ true → (from : ℕ) → from ≡ changeFrom o (a .gap) (a .ys) es 1 (innerCount es) →
+  pub taken : (r : Ports) → r ≡ portsFor change all → (from : ℕ) → r ≡ Ports.From from →
       (a′ : Arrays) → a′ ≡ withPoint a c es o from → (n : Counts) → n ≡ withCounts c (length es) → Answered a c es a′ (record { answer = Accepted; counts = n })
-  taken b e f from change a′ stored n counted =
-      let j : judged a c es ≡ good tt = reach-by b e ∙ rw f in
-      record { answer = rw j; arrays = rw j (stored ∙ rw (change, at)); counts = rw j counted }
+  taken r e from q a′ stored n counted =
+      let t = from-told change from all (sym e ∙ q) in
+      let j : judged a c es ≡ good tt = reach-by true (t .0) in
+      record { answer = rw j; arrays = rw j (stored ∙ rw (t .1, at)); counts = rw j counted }

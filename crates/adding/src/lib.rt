@@ -3,6 +3,7 @@
 use links::Added;
 use links::Counts;
 use links::Spot;
+use placing::Ports;
 use rules::Answer;
 use rules::Refusal;
 use tables::DLS;
@@ -73,13 +74,13 @@ pub fn add(table: &mut [u16], c: Counts, e: &[u16]) -> Added
         };
     };
     let p = spot_over(e, table);
-    if !placing::all_reach(p, &table[GAP..OWNER], &table[YS..DLS], e) {
+    let ports = placing::ports_of(p, &table[GAP..OWNER], &table[YS..DLS], e);
+    let Ports::From(from) = ports else {
         return Added {
             answer: Answer::Refused(Refusal::NoReach, 0),
             counts: c,
         };
-    }
-    let from = placing::change_at(p, &table[GAP..OWNER], &table[YS..DLS], e);
+    };
     storing::store(table, c, e, p, from);
     Added {
         answer: Answer::Accepted,

@@ -12,6 +12,13 @@ ghost use Rattle.links.specs.Arrays.{atPoint};
 ghost use Rattle.links.specs.Placing.{entryPoint, way, stepOf, spotOf, changeFrom, allReachFrom, innerCount};
 ghost use Rattle.links.specs.Runs.{Within};
 ghost use Rattle.placing.specs.Small.{Small};
+ghost use Rattle.placing.specs.Ports.{portsFor};
+
+// Which middle ports the inner points take: port i + 1 from an index on, and port i before it. Or 25.
+pub enum Ports {
+    From(usize),
+    NoReach,
+}
 
 // A stored number, to compute with.
 fn broad(x: u16) -> usize
@@ -107,7 +114,7 @@ fn either_reaches(p: Spot, port: usize, a: usize, y: usize) -> bool
 }
 
 // Step 5: the index of the inner point from which ports change to i + 1, the first that port i doesn't reach.
-pub fn change_at(p: Spot, gap: &[u16], ys: &[u16], e: &[u16]) -> usize
+fn change_at(p: Spot, gap: &[u16], ys: &[u16], e: &[u16]) -> usize
     requires { ⌜ Small p × (length (now gap) ≡ 1024) × (length (now ys) ≡ 1024) × (1 < length (now e)) × (length (now e) ≤ 1024) × Within 1024 (now e) ⌝ }
     ensures { λ r. ⌜ r ≡ changeFrom p (now (gap .entry)) (now (ys .entry)) (now (e .entry)) 1 (innerCount (now (e .entry))) ⌝ }
 {
@@ -131,7 +138,7 @@ pub fn change_at(p: Spot, gap: &[u16], ys: &[u16], e: &[u16]) -> usize
 }
 
 // 25 is false: every inner point i reaches port i or port i + 1.
-pub fn all_reach(p: Spot, gap: &[u16], ys: &[u16], e: &[u16]) -> bool
+fn all_reach(p: Spot, gap: &[u16], ys: &[u16], e: &[u16]) -> bool
     requires { ⌜ Small p × (length (now gap) ≡ 1024) × (length (now ys) ≡ 1024) × (1 < length (now e)) × (length (now e) ≤ 1024) × Within 1024 (now e) ⌝ }
     ensures { λ r. ⌜ r ≡ allReachFrom p (now (gap .entry)) (now (ys .entry)) (now (e .entry)) 1 (innerCount (now (e .entry))) ⌝ }
 {
@@ -148,4 +155,22 @@ pub fn all_reach(p: Spot, gap: &[u16], ys: &[u16], e: &[u16]) -> bool
         }
     }
     true
+}
+
+// Step 5: the ports of the inner points. Where port i reaches every one, 25 isn't looked for.
+pub fn ports_of(p: Spot, gap: &[u16], ys: &[u16], e: &[u16]) -> Ports
+    requires { ⌜ Small p × (length (now gap) ≡ 1024) × (length (now ys) ≡ 1024) × (1 < length (now e)) × (length (now e) ≤ 1024) × Within 1024 (now e) ⌝ }
+    ensures { λ r. ⌜
+        r ≡ portsFor (changeFrom p (now (gap .entry)) (now (ys .entry)) (now (e .entry)) 1 (innerCount (now (e .entry)))) (allReachFrom p (now (gap .entry)) (now (ys .entry)) (now (e .entry)) 1 (innerCount (now (e .entry))))
+        ⌝ }
+{
+    let last = e.len() - 1;
+    let from = change_at(p, gap, ys, e);
+    if from == last {
+        return Ports::From(from);
+    }
+    if !all_reach(p, gap, ys, e) {
+        return Ports::NoReach;
+    }
+    Ports::From(from)
 }

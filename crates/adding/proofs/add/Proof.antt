@@ -3,7 +3,6 @@ use Prim.Native.Nat.{ℕ}
 use mathlib.Core.Path.{_≡_, sym, _∙_}
 use mathlib.Core.List.{List}
 use native.Mathlib.Omega.{arith}
-use borrow.Author.Tests.{not-true, not-false}
 use Rattle.rules.specs.Refusals.{good}
 use Rattle.rules.specs.Answers.{accepted}
 use Rattle.links.specs.declared.Counts.{Counts}
@@ -24,14 +23,14 @@ numbers z = z .args .c
 abbrev entries : tie.Start → List ℕ
 entries z = z .args .e .now
 
--- the function's start, from the place where the call is judged; that place, from where its spot is known; and that, from where it reaches
+-- the function's start, from the place where the call is judged; that place, from where its spot is known; and that, from where its ports are known
 abbrev start : tie.After-enum-told → tie.Start
 start d = d .before .before .before .before .before .before .before .before
 
 abbrev judged : tie.After-spot-over → tie.After-enum-told
 judged o = o .before .before
 
-abbrev spotted : tie.After-all-reach → tie.After-spot-over
+abbrev spotted : tie.After-ports-of → tie.After-spot-over
 spotted r = r .before .before .before .before
 
 all-good : (d : tie.After-enum-told) → tests (arrays (start d)) (numbers (start d)) (entries (start d)) ≡ good tt
@@ -80,30 +79,36 @@ returns c =
 spot-over-requires : tie.Need-spot-over-requires
 spot-over-requires c κs = (runs (pass (c .before)), start (c .before) .pre .1)
 
-sub-all-reach : tie.Need-sub-all-reach
-sub-all-reach c = search needs
+sub-ports-of : tie.Need-sub-ports-of
+sub-ports-of c = search needs
 
-part-all-reach-start : tie.Need-part-all-reach-start
-part-all-reach-start c = search needs
+part-ports-of-start : tie.Need-part-ports-of-start
+part-ports-of-start c = search needs
 
-part-all-reach-end : tie.Need-part-all-reach-end
-part-all-reach-end c = search needs
+part-ports-of-end : tie.Need-part-ports-of-end
+part-ports-of-end c = search needs
 
-sub-all-reach-2 : tie.Need-sub-all-reach-2
-sub-all-reach-2 c = search needs
+sub-ports-of-2 : tie.Need-sub-ports-of-2
+sub-ports-of-2 c = search needs
 
-part-all-reach-start-2 : tie.Need-part-all-reach-start-2
-part-all-reach-start-2 c = search needs
+part-ports-of-start-2 : tie.Need-part-ports-of-start-2
+part-ports-of-start-2 c = search needs
 
-part-all-reach-end-2 : tie.Need-part-all-reach-end-2
-part-all-reach-end-2 c = search needs
+part-ports-of-end-2 : tie.Need-part-ports-of-end-2
+part-ports-of-end-2 c = search needs
 
-all-reach-requires : tie.Need-all-reach-requires
+ports-of-requires : tie.Need-ports-of-requires
 unfolding arraysIn
-all-reach-requires c κs =
+ports-of-requires c κs =
     let o = c .before .before .before in
     let p = pass (judged o) in
     (small p _ (o .spot-over .ensures), p .sized .gap, p .sized .ys, p .some, most p, all-within p)
+
+enum-known-ports : tie.Need-enum-known-ports
+enum-known-ports c = search needs
+
+enum-told-3 : tie.Need-enum-told-3
+enum-told-3 c = search needs
 
 same-length-2 : tie.Need-same-length-2
 same-length-2 c = search needs
@@ -111,45 +116,20 @@ same-length-2 c = search needs
 returns-2 : tie.Need-returns-2
 unfolding arraysIn
 returns-2 c =
-    let r = c .before in
+    let r = c .before .before in
     let o = spotted r in
     let z = start (judged o) in
-    refused-late (arrays z) (numbers z) (entries z) _ (all-good (judged o)) (o .spot-over .ensures) _ (r .all-reach .ensures) (not-true _ (c .if1 .taken))
-
-sub-change-at : tie.Need-sub-change-at
-sub-change-at c = search needs
-
-part-change-at-start : tie.Need-part-change-at-start
-part-change-at-start c = search needs
-
-part-change-at-end : tie.Need-part-change-at-end
-part-change-at-end c = search needs
-
-sub-change-at-2 : tie.Need-sub-change-at-2
-sub-change-at-2 c = search needs
-
-part-change-at-start-2 : tie.Need-part-change-at-start-2
-part-change-at-start-2 c = search needs
-
-part-change-at-end-2 : tie.Need-part-change-at-end-2
-part-change-at-end-2 c = search needs
-
-change-at-requires : tie.Need-change-at-requires
-unfolding arraysIn
-change-at-requires c κs =
-    let o = spotted (c .before .before .before .before) in
-    let p = pass (judged o) in
-    (small p _ (o .spot-over .ensures), p .sized .gap, p .sized .ys, p .some, most p, all-within p)
+    refused-late (arrays z) (numbers z) (entries z) _ (all-good (judged o)) (o .spot-over .ensures) _ (r .ports-of .ensures) (c .enum-told3 .given .1)
 
 store-requires : tie.Need-store-requires
 store-requires c κs =
-    let o = spotted (c .before .before .before .before .before .before) in
+    let o = spotted (c .before .before .before .before) in
     (storable (pass (judged o)) _ (o .spot-over .ensures), start (judged o) .pre .1)
 
 counts-with-requires : tie.Need-counts-with-requires
 counts-with-requires c κs =
-    let f = c .before .before .before .before in
-    let p = pass (judged (spotted (f .before .before .before .before .before))) in
+    let k = c .before .before .before .before in
+    let p = pass (judged (spotted (k .before .before .before))) in
     (p .room, p .border, omega (arith, p .lines), p .fits)
 
 same-length-3 : tie.Need-same-length-3
@@ -159,12 +139,11 @@ returns-3 : tie.Need-returns-3
 unfolding arraysIn
 returns-3 c =
     let t = c .before .before .before in
-    let f = t .before .before in
-    let i = f .before .before .before .before in
-    let r = i .before in
+    let f = t .before .before .before in
+    let r = f .before .before in
     let o = spotted r in
     let z = start (judged o) in
-    taken (arrays z) (numbers z) (entries z) _ (all-good (judged o)) (o .spot-over .ensures) _ (r .all-reach .ensures) (not-false _ (i .if1 .left)) _ (f .change-at .ensures) _ (t .store .ensures) _ (c .counts-with .ensures)
+    taken (arrays z) (numbers z) (entries z) _ (all-good (judged o)) (o .spot-over .ensures) _ (r .ports-of .ensures) _ (f .ports .given .1) _ (t .store .ensures) _ (c .counts-with .ensures)
 
 pub add-spec : {M : Type 1} → statement M
 add-spec =
@@ -182,22 +161,17 @@ add-spec =
     same-length
     returns
     spot-over-requires
-    sub-all-reach
-    part-all-reach-start
-    part-all-reach-end
-    sub-all-reach-2
-    part-all-reach-start-2
-    part-all-reach-end-2
-    all-reach-requires
+    sub-ports-of
+    part-ports-of-start
+    part-ports-of-end
+    sub-ports-of-2
+    part-ports-of-start-2
+    part-ports-of-end-2
+    ports-of-requires
+    enum-known-ports
+    enum-told-3
     same-length-2
     returns-2
-    sub-change-at
-    part-change-at-start
-    part-change-at-end
-    sub-change-at-2
-    part-change-at-start-2
-    part-change-at-end-2
-    change-at-requires
     store-requires
     counts-with-requires
     same-length-3
