@@ -121,7 +121,8 @@ fn refuse(why: Refusal) -> Added
     }
 }
 
-// Makes the calls that the words hold on a drawing opened for n points, in a table of zeros; each answer takes two words of the buffer.
+// Makes the calls that the words hold on a drawing opened for n points; each answer takes two words of the buffer.
+// For `panel_c`, which has no drawing by value: it asks for a table of zeros, and leaves it so where it refuses.
 pub fn run_in(table: &mut Table, n: usize, calls: &[u16], answers: &mut [u16]) -> Added
     requires { ⌜ now table ≡ zeros ⌝ }
     ensures { λ r. ⌜ Ran n (now (calls .entry)) (now (answers .entry)) (now (answers .exit)) (doneIn r (now (table .exit))) ⌝ }

@@ -107,7 +107,8 @@ fn move_of(table: &Table, x: &[u16; POINTS], c: Counts, e: usize, which: usize, 
     tool::line_move(which, c.s, later, bend, earlier, t)
 }
 
-// Move `number`, from 0, of the moves with this tool, from the lent table of a drawing and its settled x. Refusals in order: 12, 22, 23.
+// Move `number`, from 0, of the moves with this tool, from a lent table and its settled x. Refusals in order: 12, 22, 23.
+// For `panel_c`: it asks for the table of a drawing.
 pub fn look_move(table: &Table, x: &[u16; POINTS], c: Counts, t: Tool, number: usize) -> Moved
     requires { ⌜ PlacedIn c (now table) (now x) ⌝ }
     ensures { λ r. ⌜ ((q : Plan) → Holds q (arraysIn (now (table .entry))) c → MoveSeen r (moveAt q (wholeTool t) number)) ⌝ }

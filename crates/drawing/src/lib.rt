@@ -119,7 +119,7 @@ fn is_point(k: usize, p: usize) -> bool
     1 <= p && p <= k
 }
 
-// The x of every placed point, for `look_point` and `look_line`.
+// The x of every placed point. For `panel_c`, as the look-ups on a lent table below are for it and `cutter`: they ask for the table of a drawing.
 pub fn settled(table: &Table, k: usize) -> [u16; POINTS]
     requires { ⌜ Settleable noPoints (arraysIn (now table)) k ⌝ }
     ensures { λ r. ⌜ Settled r (arraysIn (now (table .entry))) k ⌝ }
@@ -139,7 +139,7 @@ pub fn settle(d: Drawing) -> Placed
     Placed { drawing: d, x }
 }
 
-// A point's place, from the lent table of a drawing and its settled x.
+// A point's place, from a lent table and its settled x.
 pub fn look_point(table: &Table, x: &[u16; POINTS], c: Counts, p: usize) -> PointSeen
     requires { ⌜ PlacedIn c (now table) (now x) ⌝ }
     ensures { λ r. ⌜ ((q : Plan) → Holds q (arraysIn (now (table .entry))) c → r ≡ pointSeen (lookPoint q p)) ⌝ }
@@ -171,7 +171,7 @@ pub fn point(d: Drawing, p: usize) -> PointSeen
     point_at(settle(d), p)
 }
 
-// A line with its ends, bend and cut flag, and where its bend lies, from the lent table of a drawing and its settled x.
+// A line with its ends, bend and cut flag, and where its bend lies, from a lent table and its settled x.
 pub fn look_line(table: &Table, x: &[u16; POINTS], c: Counts, e: usize) -> LineSeen
     requires { ⌜ PlacedIn c (now table) (now x) ⌝ }
     ensures { λ r. ⌜ ((q : Plan) → Holds q (arraysIn (now (table .entry))) c → r ≡ lineSeen (lookLine q e)) ⌝ }

@@ -1,4 +1,4 @@
-// How the running program keeps a drawing: boundary links and gaps, in lent arrays of 16-bit numbers.
+// How the running program keeps a drawing: boundary links and gaps, in arrays of 16-bit numbers, which one lent table keeps (crate `tables`).
 // The structs that its functions pass by value; specs/ says what the arrays hold and what each step does to them.
 use rules::Answer;
 use rules::Bend;

@@ -72,7 +72,7 @@ pub fn drawing_of(order: &[u8]) -> Done
     Done { answer, drawing }
 }
 
-// The drawing file of the drawing in the lent table: 22 while it is unfinished, 24 where the buffer is short.
+// The drawing file of the drawing in the lent table: 22 while it is unfinished, 24 where the buffer is short. For `panel_c`: it asks for the table of a drawing.
 pub fn write_file(out: &mut [u8], table: &Table, c: Counts) -> Written
     requires { ⌜ Came (record { counts = c; table = now table }) ⌝ }
     ensures { λ r. ⌜ ((q : Plan) → Reached q → Holds q (arraysIn (now (table .entry))) c → Wrote (now (out .entry)) (writeDrawing q) (now (out .exit)) r) ⌝ }

@@ -128,7 +128,7 @@ pub fn refusal_number(r: Refusal) -> u16
     }
 }
 
-// How many bytes the drawing file of n points has: "42n - 60".
+// How many bytes the drawing file of n points has: "42n - 60". For `panel`, whose n is in range.
 pub fn drawing_length(n: usize) -> usize
     requires { ⌜ (fewestPoints ≤ n) × (n ≤ mostPoints) ⌝ }
     ensures { λ r. ⌜ r ≡ drawingLength n ⌝ }
