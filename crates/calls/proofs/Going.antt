@@ -11,10 +11,10 @@ use Rattle.rules.specs.Refusals.{answer}
 use Rattle.rules.specs.Points.{Drawing as Plan, opening}
 use Rattle.rules.specs.Adding.{add}
 use Rattle.rules.specs.Calls.{left, after, answers, drawn, said}
-use Rattle.links.specs.declared.Counts.{Counts}
-use Rattle.links.specs.Arrays.{Arrays}
-use Rattle.links.specs.Storing.{judged}
-use Rattle.stored.specs.Adding.{Holds, called}
+use Rattle.store_links.specs.declared.Counts.{Counts}
+use Rattle.store_links.specs.Arrays.{Arrays}
+use Rattle.store_links.specs.Storing.{judged}
+use Rattle.store_laws.specs.Adding.{Holds, called}
 use Rattle.calls.specs.Lists.{callsIn, wordsOf, answerWords, numberIn, placeIn, withAnswer}
 use Rattle.calls.specs.Turns.{endOf, Callable, Made, Begun, Ended}
 use Rattle.calls.specs.Rests.{no-calls, rest-calls}

@@ -8,17 +8,17 @@ use lib.ListN.{length}
 use Rattle.rules.specs.declared.Answer.the-variants.{Accepted, Refused}
 use Rattle.rules.specs.declared.Refusal.the-variants.{OutOfRange, OutputShort}
 use Rattle.rules.specs.Calls.{drawn}
-use Rattle.links.specs.declared.Added.{Added}
-use Rattle.links.specs.declared.Counts.{Counts}
-use Rattle.links.specs.Arrays.{Arrays}
-use Rattle.links.specs.Opening.{openArrays, openCounts, noCounts}
+use Rattle.store_links.specs.declared.Added.{Added}
+use Rattle.store_links.specs.declared.Counts.{Counts}
+use Rattle.store_links.specs.Arrays.{Arrays}
+use Rattle.store_links.specs.Opening.{openArrays, openCounts, noCounts}
 use Rattle.promise.specs.Bounds.{standing-start}
 use Rattle.promise.specs.Theorem.{demand-3}
 use Rattle.exchange.specs.Reaching.{reached-drawn}
-use Rattle.stored.specs.Opened.{sized-open, stores-open}
+use Rattle.store_laws.specs.Opened.{sized-open, stores-open}
 use Rattle.drawing.specs.Opens.{blank}
-use Rattle.opening.specs.Zeros.{zeros}
-use Rattle.tables.specs.Tables.{arraysIn}
+use Rattle.store_points.specs.Zeros.{zeros}
+use Rattle.store_tables.specs.Tables.{arraysIn}
 use Rattle.calls.specs.Lists.{callsIn}
 use Rattle.calls.specs.Turns.{Begun, Ended, Runs}
 use Rattle.calls.specs.Ran.{doneIn, Refuses, Ran}

@@ -8,11 +8,11 @@ use lib.Dec.{leb, ltb, eqb}
 use Rattle.rules.specs.declared.Refusal.{Refusal}
 use Rattle.rules.specs.declared.Refusal.the-variants.{Finished, FewEntries, NotPlaced, Covered, NoRun, NotWhole, NoReach}
 use Rattle.rules.specs.Refusals.{Result, good, refused, answer, _>>_, refuseIf}
-use Rattle.links.specs.declared.Counts.{Counts}
-use Rattle.links.specs.Arrays.{Arrays, atPoint}
-use Rattle.links.specs.Judging.{pointIn, entriesPass, linksPass, runPasses, passes}
-use Rattle.links.specs.Placing.{allReachFrom, innerCount}
-use Rattle.links.specs.Storing.{judged, spotFor}
+use Rattle.store_links.specs.declared.Counts.{Counts}
+use Rattle.store_links.specs.Arrays.{Arrays, atPoint}
+use Rattle.store_links.specs.Judging.{pointIn, entriesPass, linksPass, runPasses, passes}
+use Rattle.store_links.specs.Placing.{allReachFrom, innerCount}
+use Rattle.store_links.specs.Storing.{judged, spotFor}
 use Rattle.calls.specs.Lists.{placeIn}
 
 -- where a test refuses, it does so at a place up to `most`

@@ -8,7 +8,7 @@ use Rattle.rules.specs.declared.Refusal.{Refusal}
 use Rattle.rules.specs.declared.Refusal.the-variants.{OutOfRange, OutputShort}
 use Rattle.rules.specs.Calls.{drawn, said}
 use Rattle.promise.specs.Promise.{Promise}
-use Rattle.links.specs.declared.Added.{Added}
+use Rattle.store_links.specs.declared.Added.{Added}
 use Rattle.drawing.specs.declared.Done.{Done}
 use Rattle.drawing.specs.Opens.{blank}
 use Rattle.drawing.specs.View.{Is, Came}

@@ -6,10 +6,10 @@ use lib.ListN.{length, getD, drop}
 use Rattle.rules.specs.Refusals.{answer}
 use Rattle.rules.specs.Points.{Drawing as Plan, opening}
 use Rattle.rules.specs.Calls.{drawn, said}
-use Rattle.links.specs.declared.Counts.{Counts}
-use Rattle.links.specs.Arrays.{Arrays}
-use Rattle.links.specs.Storing.{judged, arraysAfter, countsAfter}
-use Rattle.stored.specs.Adding.{Holds}
+use Rattle.store_links.specs.declared.Counts.{Counts}
+use Rattle.store_links.specs.Arrays.{Arrays}
+use Rattle.store_links.specs.Storing.{judged, arraysAfter, countsAfter}
+use Rattle.store_laws.specs.Adding.{Holds}
 use Rattle.calls.specs.Lists.{callsIn, wordsOf, withAnswer}
 
 -- where the call whose count stands at index `at` ends

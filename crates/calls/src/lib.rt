@@ -1,20 +1,20 @@
 // A whole list of calls in one function: document 01's demand 3 as one claim about the program.
 use drawing::Done;
 use drawing::Drawing;
-use links::Added;
-use links::Counts;
 use rules::Answer;
 use rules::FEWEST_POINTS;
 use rules::MOST_POINTS;
 use rules::Refusal;
-use tables::END;
-use tables::Table;
+use store_links::Added;
+use store_links::Counts;
+use store_tables::END;
+use store_tables::Table;
 ghost use mathlib.Core.Path.{_≡_};
 ghost use Prim.Native.Nat.{_+_, _<_};
 ghost use lib.ListN.{length, set};
-ghost use Rattle.tables.specs.Tables.{arraysIn};
-ghost use Rattle.links.specs.Opening.{noCounts};
-ghost use Rattle.opening.specs.Zeros.{zeros};
+ghost use Rattle.store_tables.specs.Tables.{arraysIn};
+ghost use Rattle.store_links.specs.Opening.{noCounts};
+ghost use Rattle.store_points.specs.Zeros.{zeros};
 ghost use Rattle.calls.specs.Lists.{callsIn, placeIn, withAnswer};
 ghost use Rattle.calls.specs.Turns.{endOf, Callable, Made, Begun, Ended, Runs};
 ghost use Rattle.calls.specs.Ran.{doneIn, Ran};
@@ -76,7 +76,7 @@ fn one_call(table: &mut Table, c: Counts, e: &[u16], answers: &mut [u16], at: us
     requires { ⌜ Callable (arraysIn (now table)) c (now e) (now answers) at ⌝ }
     ensures { λ r. ⌜ Made (arraysIn (now (table .entry))) c (now (e .entry)) (now (answers .entry)) at (arraysIn (now (table .exit))) r (now (answers .exit)) ⌝ }
 {
-    let added = adding::add(table, c, e);
+    let added = store_adding::add(table, c, e);
     let answer = added.answer;
     let numbers = added.counts;
     put_answer(answers, at, answer);
@@ -107,7 +107,7 @@ fn draw_calls(table: &mut Table, n: usize, calls: &[u16], answers: &mut [u16]) -
     requires { ⌜ Runs n (now calls) (now answers) × (now table ≡ zeros) ⌝ }
     ensures { λ r. ⌜ Ended n (now (calls .entry)) (now (answers .entry)) (arraysIn (now (table .exit))) r (now (answers .exit)) ⌝ }
 {
-    let opened = opening::open_in(table, n, 1, 1, 1, 2);
+    let opened = store_points::open_in(table, n, 1, 1, 1, 2);
     all_calls(table, opened, calls, answers)
 }
 
@@ -117,7 +117,7 @@ fn refuse(why: Refusal) -> Added
 {
     Added {
         answer: Answer::Refused(why, 0),
-        counts: links::no_counts(),
+        counts: store_links::no_counts(),
     }
 }
 

@@ -11,9 +11,9 @@ use Rattle.rules.specs.declared.Line.{Line}
 use Rattle.rules.specs.Basics.{if_then_else_}
 use Rattle.rules.specs.Entries.{entryOf}
 use Rattle.rules.specs.Points.{Drawing as Plan, lineAt}
-use Rattle.links.specs.declared.Counts.{Counts}
-use Rattle.links.specs.Arrays.{Arrays}
-use Rattle.stored.specs.Adding.{Holds}
+use Rattle.store_links.specs.declared.Counts.{Counts}
+use Rattle.store_links.specs.Arrays.{Arrays}
+use Rattle.store_laws.specs.Adding.{Holds}
 use Rattle.cutter.specs.Numbering.{cutLines, noLine}
 
 -- how many numbers below e pass the test

@@ -11,9 +11,9 @@ use Rattle.rules.specs.Points.{Drawing as Plan, placeOf, lineAt}
 use Rattle.rules.specs.Ports.{bendPlace}
 use Rattle.rules.specs.Lookups.{lookPoint, lookLine}
 use Rattle.promise.specs.Bounds.{width-most, place-most, bend-most}
-use Rattle.links.specs.declared.Counts.{Counts}
-use Rattle.links.specs.Arrays.{Arrays}
-use Rattle.stored.specs.Adding.{Holds}
+use Rattle.store_links.specs.declared.Counts.{Counts}
+use Rattle.store_links.specs.Arrays.{Arrays}
+use Rattle.store_laws.specs.Adding.{Holds}
 use Rattle.tool.specs.Showing.{OnGrid}
 use Rattle.drawing.specs.declared.Drawing.{Drawing}
 use Rattle.drawing.specs.declared.LineSeen.{LineSeen}
@@ -21,7 +21,7 @@ use Rattle.drawing.specs.declared.LineSeen.the-variants as Line
 use Rattle.drawing.specs.declared.PointSeen.{PointSeen}
 use Rattle.drawing.specs.declared.PointSeen.the-variants as Point
 use Rattle.drawing.specs.View.{Came, pointSeen, lineSeen}
-use Rattle.bends.specs.Lines.{ends}
+use Rattle.store_settling.specs.Lines.{ends}
 
 -- A drawing that came from calls or an order file has a scale from 1 to 8.
 pub scale : {d : Drawing} → Came d → (1 ≤ d .counts .s) × (d .counts .s ≤ 8)

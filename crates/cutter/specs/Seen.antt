@@ -12,9 +12,9 @@ use Rattle.rules.specs.Refusals.{Result, good, refused, _>>_, refuseIf}
 use Rattle.rules.specs.Points.{Drawing as Plan, placeOf, lineAt}
 use Rattle.rules.specs.Ports.{bendPlace}
 use Rattle.rules.specs.Moves.{Tool as WholeTool, Move as WholeMove, lift, allMoves, moveAt}
-use Rattle.links.specs.declared.Counts.{Counts}
-use Rattle.links.specs.Arrays.{Arrays}
-use Rattle.stored.specs.Adding.{Holds}
+use Rattle.store_links.specs.declared.Counts.{Counts}
+use Rattle.store_links.specs.Arrays.{Arrays}
+use Rattle.store_laws.specs.Adding.{Holds}
 use Rattle.tool.specs.declared.Tool.{Tool}
 use Rattle.tool.specs.declared.Numbers.{Numbers}
 use Rattle.tool.specs.declared.Move.{Move}

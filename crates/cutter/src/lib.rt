@@ -3,12 +3,12 @@ use drawing::Drawing;
 use drawing::LineSeen;
 use drawing::Placed;
 use drawing::PointSeen;
-use links::Counts;
 use rules::Place;
 use rules::Refusal;
-use tables::POINTS;
-use tables::Table;
-use tables::WORDS;
+use store_links::Counts;
+use store_tables::POINTS;
+use store_tables::Table;
+use store_tables::WORDS;
 use tool::Checked;
 use tool::Move;
 use tool::Numbers;
@@ -19,8 +19,8 @@ ghost use lib.ListN.{getD};
 ghost use Rattle.rules.specs.Entries.{entryOf};
 ghost use Rattle.rules.specs.Points.{Drawing as Plan, placeOf, lineAt};
 ghost use Rattle.rules.specs.Moves.{Tool as WholeTool, lift, moveAt};
-ghost use Rattle.stored.specs.Adding.{Holds};
-ghost use Rattle.tables.specs.Tables.{arraysIn};
+ghost use Rattle.store_laws.specs.Adding.{Holds};
+ghost use Rattle.store_tables.specs.Tables.{arraysIn};
 ghost use Rattle.tool.specs.Checking.{wholeTool, toolOf, InRange};
 ghost use Rattle.drawing.specs.View.{Is, Came};
 ghost use Rattle.drawing.specs.Places.{PlacedIn, IsPlaced};
@@ -44,7 +44,7 @@ pub enum Counted {
 fn is_cut(word: u16) -> bool
     ensures { λ r. ⌜ r ≡ entryOf word .cut ⌝ }
 {
-    let x = entries::split(word);
+    let x = words::split(word);
     x.cut
 }
 

@@ -11,13 +11,13 @@ use Rattle.rules.specs.Points.{Drawing as Plan}
 use Rattle.rules.specs.Adding.{add}
 use Rattle.rules.specs.Calls.{left}
 use Rattle.exchange.specs.Reaching.{reached-left}
-use Rattle.links.specs.declared.Added.{Added}
-use Rattle.links.specs.declared.Counts.{Counts}
-use Rattle.links.specs.Arrays.{Arrays}
-use Rattle.links.specs.Storing.{judged, arraysAfter, countsAfter}
-use Rattle.stored.specs.Adding.{Holds, called}
-use Rattle.tables.specs.Tables.{Full, arraysIn, table-long, tableSize, table-same}
-use Rattle.adding.specs.Calls.{Ready, Answered}
+use Rattle.store_links.specs.declared.Added.{Added}
+use Rattle.store_links.specs.declared.Counts.{Counts}
+use Rattle.store_links.specs.Arrays.{Arrays}
+use Rattle.store_links.specs.Storing.{judged, arraysAfter, countsAfter}
+use Rattle.store_laws.specs.Adding.{Holds, called}
+use Rattle.store_tables.specs.Tables.{Full, arraysIn, table-long, tableSize, table-same}
+use Rattle.store_adding.specs.Calls.{Ready, Answered}
 use Rattle.drawing.specs.declared.Drawing.{Drawing}
 use Rattle.drawing.specs.declared.Done.{Done}
 use Rattle.drawing.specs.View.{Is, Came}

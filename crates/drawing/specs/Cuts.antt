@@ -13,9 +13,9 @@ use Rattle.rules.specs.Entries.{entryOf}
 use Rattle.rules.specs.Points.{Drawing as Plan, lineAt}
 use Rattle.rules.specs.Demand.{endsAt}
 use Rattle.rules.specs.Lookups.{CutLineAt, LooksCut}
-use Rattle.links.specs.declared.Counts.{Counts}
-use Rattle.links.specs.Arrays.{Arrays}
-use Rattle.stored.specs.Adding.{Holds}
+use Rattle.store_links.specs.declared.Counts.{Counts}
+use Rattle.store_links.specs.Arrays.{Arrays}
+use Rattle.store_laws.specs.Adding.{Holds}
 use Rattle.drawing.specs.declared.CutSeen.the-variants as Cut
 use Rattle.drawing.specs.Places.{and-both}
 use Rattle.drawing.specs.View.{sought}

@@ -9,13 +9,13 @@ use Rattle.rules.specs.declared.Line.{Line}
 use Rattle.rules.specs.Points.{Drawing as Plan, lineAt}
 use Rattle.rules.specs.Lookups.{lookLine}
 use Rattle.rules.specs.declared.Refusal.the-variants.{NoSuch}
-use Rattle.links.specs.declared.Counts.{Counts}
-use Rattle.links.specs.Arrays.{Arrays}
-use Rattle.stored.specs.Adding.{Holds}
-use Rattle.bends.specs.Lines.{lineIn, line-is, ends}
-use Rattle.settling.specs.Placed.{Settled}
-use Rattle.settling.specs.Bends.{bendIn, Bendable}
-use Rattle.settling.specs.Bending.{Shows, shows-of, bendable-of, bend-right}
+use Rattle.store_links.specs.declared.Counts.{Counts}
+use Rattle.store_links.specs.Arrays.{Arrays}
+use Rattle.store_laws.specs.Adding.{Holds}
+use Rattle.store_settling.specs.Lines.{lineIn, line-is, ends}
+use Rattle.store_settling.specs.Placed.{Settled}
+use Rattle.store_settling.specs.Bends.{bendIn, Bendable}
+use Rattle.store_settling.specs.Bending.{Shows, shows-of, bendable-of, bend-right}
 use Rattle.drawing.specs.declared.LineSeen.the-variants as Line
 use Rattle.drawing.specs.Places.{settled-xs}
 use Rattle.drawing.specs.View.{lineSeen}

@@ -9,12 +9,12 @@ use Rattle.rules.specs.declared.Refusal.the-variants.{OutOfRange}
 use Rattle.rules.specs.Basics.{between}
 use Rattle.rules.specs.Refusals.{Result, good, refused, answer}
 use Rattle.rules.specs.Points.{Drawing as Plan, opening, opened}
-use Rattle.links.specs.Opening.{openArrays, openCounts, noCounts}
-use Rattle.tables.specs.Tables.{arraysIn}
-use Rattle.opening.specs.Zeros.{zeros}
+use Rattle.store_links.specs.Opening.{openArrays, openCounts, noCounts}
+use Rattle.store_tables.specs.Tables.{arraysIn}
+use Rattle.store_points.specs.Zeros.{zeros}
 use Rattle.promise.specs.Bounds.{standing-start}
 use Rattle.exchange.specs.Reaching.{reached-opening}
-use Rattle.stored.specs.Opened.{sized-open, stores-open}
+use Rattle.store_laws.specs.Opened.{sized-open, stores-open}
 use Rattle.drawing.specs.declared.Drawing.{Drawing}
 use Rattle.drawing.specs.declared.Done.{Done}
 use Rattle.drawing.specs.View.{Is, Came}

@@ -12,12 +12,12 @@ use Rattle.rules.specs.declared.Refusal.the-variants.{NoSuch}
 use Rattle.rules.specs.Basics.{between}
 use Rattle.rules.specs.Points.{Drawing as Plan, at}
 use Rattle.rules.specs.Lookups.{lookPoint}
-use Rattle.links.specs.declared.Counts.{Counts}
-use Rattle.links.specs.Arrays.{Arrays}
-use Rattle.links.specs.Opening.{noPoints}
-use Rattle.stored.specs.Adding.{Holds}
-use Rattle.settling.specs.Placed.{Settleable, Settled, settleable-of, placed-at}
-use Rattle.tables.specs.Tables.{arraysIn}
+use Rattle.store_links.specs.declared.Counts.{Counts}
+use Rattle.store_links.specs.Arrays.{Arrays}
+use Rattle.store_links.specs.Opening.{noPoints}
+use Rattle.store_laws.specs.Adding.{Holds}
+use Rattle.store_settling.specs.Placed.{Settleable, Settled, settleable-of, placed-at}
+use Rattle.store_tables.specs.Tables.{arraysIn}
 use Rattle.drawing.specs.declared.PointSeen.the-variants as Point
 use Rattle.drawing.specs.declared.Placed.{Placed}
 use Rattle.drawing.specs.View.{Came, pointSeen}

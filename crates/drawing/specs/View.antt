@@ -7,8 +7,8 @@ use Rattle.rules.specs.Points.{Drawing as Plan}
 use Rattle.rules.specs.Lookups.{Sought, cutLine, noCutLine}
 use Rattle.rules.specs.Lookups as Rules
 use Rattle.exchange.specs.Built.{Reached}
-use Rattle.stored.specs.Adding.{Holds}
-use Rattle.tables.specs.Tables.{arraysIn}
+use Rattle.store_laws.specs.Adding.{Holds}
+use Rattle.store_tables.specs.Tables.{arraysIn}
 use Rattle.drawing.specs.declared.Drawing.{Drawing}
 use Rattle.drawing.specs.declared.PointSeen.{PointSeen}
 use Rattle.drawing.specs.declared.PointSeen.the-variants as Point

@@ -1,34 +1,34 @@
 // The drawing by value: opening, adding, look-ups. It wraps the core over a lent table and copies at entry and exit only.
-use links::Counts;
 use rules::Answer;
 use rules::FEWEST_POINTS;
 use rules::Line;
 use rules::MOST_POINTS;
 use rules::Place;
 use rules::Refusal;
-use tables::END;
-use tables::LATER;
-use tables::POINTS;
-use tables::Table;
-use tables::WORDS;
-use tables::YS;
+use store_links::Counts;
+use store_tables::END;
+use store_tables::LATER;
+use store_tables::POINTS;
+use store_tables::Table;
+use store_tables::WORDS;
+use store_tables::YS;
 ghost use mathlib.Core.Path.{_≡_};
 ghost use Prim.Native.Nat.{_<_, _≤_};
 ghost use Rattle.rules.specs.Basics.{between};
 ghost use Rattle.rules.specs.Entries.{entryOf};
 ghost use Rattle.rules.specs.Points.{Drawing as Plan};
 ghost use Rattle.rules.specs.Lookups.{lookPoint, lookLine, LooksCut};
-ghost use Rattle.links.specs.Opening.{noPoints};
-ghost use Rattle.stored.specs.Adding.{Holds};
-ghost use Rattle.tables.specs.Tables.{arraysIn};
-ghost use Rattle.settling.specs.Placed.{Settleable, Settled};
+ghost use Rattle.store_links.specs.Opening.{noPoints};
+ghost use Rattle.store_laws.specs.Adding.{Holds};
+ghost use Rattle.store_tables.specs.Tables.{arraysIn};
+ghost use Rattle.store_settling.specs.Placed.{Settleable, Settled};
 ghost use Rattle.drawing.specs.View.{Is, Came, pointSeen, lineSeen, sought};
 ghost use Rattle.drawing.specs.Opens.{blank, OpenFor, Opens};
 ghost use Rattle.drawing.specs.Cuts.{cutTo, FirstCut};
 ghost use Rattle.drawing.specs.Adds.{AddsTo};
 ghost use Rattle.drawing.specs.Places.{PlacedIn, IsPlaced};
 
-// A drawing as the program keeps it: boundary links and gaps in one table (crate `links` says what each of its arrays holds).
+// A drawing as the program keeps it: boundary links and gaps in one table (crate `store_links` says what each of its arrays holds).
 pub struct Drawing {
     pub counts: Counts,
     pub table: Table,
@@ -68,7 +68,7 @@ pub fn no_drawing() -> Drawing
     ensures { λ r. ⌜ r ≡ blank ⌝ }
 {
     Drawing {
-        counts: links::no_counts(),
+        counts: store_links::no_counts(),
         table: [0u16; END],
     }
 }
@@ -78,7 +78,7 @@ fn as_opened(n: usize) -> Drawing
     ensures { λ r. ⌜ OpenFor n r ⌝ }
 {
     let mut table = [0u16; END];
-    let counts = opening::open_in(&mut table, n, 1, 1, 1, 2);
+    let counts = store_points::open_in(&mut table, n, 1, 1, 1, 2);
     Drawing { counts, table }
 }
 
@@ -105,7 +105,7 @@ pub fn add(d: Drawing, e: &[u16]) -> Done
 {
     let c = d.counts;
     let mut table = d.table;
-    let added = adding::add(&mut table, c, e);
+    let added = store_adding::add(&mut table, c, e);
     let answer = added.answer;
     let counts = added.counts;
     let drawing = Drawing { counts, table };
@@ -125,7 +125,7 @@ pub fn settled(table: &Table, k: usize) -> [u16; POINTS]
     ensures { λ r. ⌜ Settled r (arraysIn (now (table .entry))) k ⌝ }
 {
     let mut x = [0u16; POINTS];
-    settling::settle(&mut x, table, k);
+    store_settling::settle(&mut x, table, k);
     x
 }
 
@@ -179,11 +179,11 @@ pub fn look_line(table: &Table, x: &[u16; POINTS], c: Counts, e: usize) -> LineS
     if c.lines <= e {
         return LineSeen::Refused(Refusal::NoSuch, 0);
     }
-    let l = bends::line_in(table, e);
+    let l = store_settling::line_in(table, e);
     let to = words::broad(l.later);
     let from = words::broad(l.earlier);
     let b = l.bend;
-    let at = settling::bend_of(x, table, to, from, b);
+    let at = store_settling::bend_of(x, table, to, from, b);
     LineSeen::Seen(l, at)
 }
 
@@ -208,7 +208,7 @@ pub fn line(d: Drawing, e: usize) -> LineSeen
 fn is_cut_to(word: u16, later: u16, p: usize) -> bool
     ensures { λ r. ⌜ r ≡ cutTo (entryOf word) later p ⌝ }
 {
-    let x = entries::split(word);
+    let x = words::split(word);
     x.cut && (words::broad(later) == p || words::broad(x.point) == p)
 }
 

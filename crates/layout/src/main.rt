@@ -2,16 +2,16 @@
 // Standard input holds 16-bit numbers, low byte first: n, the number of rounds, then the calls, each a count and its entries.
 use drawing::Drawing;
 use libc::STDOUT_FILENO;
-use tables::BENDS;
-use tables::DLS;
-use tables::DRS;
-use tables::GAP;
-use tables::HS;
-use tables::LATER;
-use tables::NEXT;
-use tables::OWNER;
-use tables::WORDS;
-use tables::YS;
+use store_tables::BENDS;
+use store_tables::DLS;
+use store_tables::DRS;
+use store_tables::GAP;
+use store_tables::HS;
+use store_tables::LATER;
+use store_tables::NEXT;
+use store_tables::OWNER;
+use store_tables::WORDS;
+use store_tables::YS;
 ghost use Prim.Native.Nat.{_+_, _<_, _≤_};
 ghost use lib.ListN.{length};
 

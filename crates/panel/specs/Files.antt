@@ -9,11 +9,11 @@ use borrow.Author.Tests.{le-ltb}
 use Rattle.rules.specs.Refusals.{good}
 use Rattle.rules.specs.Points.{Drawing as Plan}
 use Rattle.rules.specs.DrawingFile.{drawingBytes, drawingLength, longestDrawing}
-use Rattle.links.specs.declared.Counts.{Counts}
-use Rattle.links.specs.Arrays.{Arrays}
-use Rattle.stored.specs.Adding.{Holds}
-use Rattle.settling.specs.Placed.{Settled, placed-at}
-use Rattle.drawing_writer.specs.Finished.{Finished, Writable}
+use Rattle.store_links.specs.declared.Counts.{Counts}
+use Rattle.store_links.specs.Arrays.{Arrays}
+use Rattle.store_laws.specs.Adding.{Holds}
+use Rattle.store_settling.specs.Placed.{Settled, placed-at}
+use Rattle.write_drawings.specs.Finished.{Finished, Writable}
 use Rattle.exchange.specs.Built.{Whole}
 use Rattle.exchange.specs.DrawingRead.{length-drawing}
 use Rattle.panel.specs.declared.Written.{Written}

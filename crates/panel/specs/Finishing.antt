@@ -7,12 +7,12 @@ use borrow.Author.Tests.{lt-ltb, le-ltb}
 use Rattle.rules.specs.declared.Refusal.the-variants.{Unfinished}
 use Rattle.rules.specs.Refusals.{Result, refused, refuseIf, _>>_}
 use Rattle.rules.specs.Points.{Drawing as Plan}
-use Rattle.links.specs.declared.Counts.{Counts}
-use Rattle.links.specs.Arrays.{Arrays}
-use Rattle.stored.specs.Adding.{Holds}
+use Rattle.store_links.specs.declared.Counts.{Counts}
+use Rattle.store_links.specs.Arrays.{Arrays}
+use Rattle.store_laws.specs.Adding.{Holds}
 use Rattle.exchange.specs.Built.{Reached, Whole}
 use Rattle.drawing.specs.declared.Drawing.{Drawing}
-use Rattle.tables.specs.Tables.{arraysIn}
+use Rattle.store_tables.specs.Tables.{arraysIn}
 use Rattle.drawing.specs.View.{Came}
 use Rattle.panel.specs.Outputs.{Ended}
 

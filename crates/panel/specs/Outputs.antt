@@ -11,9 +11,9 @@ use Rattle.rules.specs.Refusals.{Result, good, refused, _>>_, refuseIf}
 use Rattle.rules.specs.Output.{fitted, filled}
 use Rattle.rules.specs.Points.{Drawing as Plan}
 use Rattle.rules.specs.OrderFile.{writeOrder}
-use Rattle.links.specs.declared.Counts.{Counts}
-use Rattle.links.specs.Arrays.{Arrays}
-use Rattle.stored.specs.Adding.{Holds}
+use Rattle.store_links.specs.declared.Counts.{Counts}
+use Rattle.store_links.specs.Arrays.{Arrays}
+use Rattle.store_laws.specs.Adding.{Holds}
 use Rattle.exchange.specs.Built.{Whole}
 use Rattle.panel.specs.declared.Written.{Written}
 use Rattle.panel.specs.declared.Written.the-variants.{Bytes, Refused}

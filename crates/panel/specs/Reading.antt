@@ -8,16 +8,16 @@ use Rattle.rules.specs.Refusals.{good}
 use Rattle.rules.specs.Points.{Drawing as Plan}
 use Rattle.rules.specs.OrderFile.{readOrder}
 use Rattle.rules.specs.DrawingFile.{drawingBytes, drawFile}
-use Rattle.links.specs.declared.Added.{Added}
-use Rattle.links.specs.Arrays.{Arrays}
+use Rattle.store_links.specs.declared.Added.{Added}
+use Rattle.store_links.specs.Arrays.{Arrays}
 use Rattle.rules.specs.Answers.{accepted, refusing}
-use Rattle.stored.specs.Adding.{Holds}
+use Rattle.store_laws.specs.Adding.{Holds}
 use Rattle.exchange.specs.Built.{Whole}
 use Rattle.exchange.specs.Demand2.{drawn-as}
 use Rattle.exchange.specs.WholeRead.{whole-read}
-use Rattle.order_reader.specs.Points.{Gave}
+use Rattle.read_orders.specs.Points.{Gave}
 use Rattle.drawing.specs.declared.Drawing.{Drawing}
-use Rattle.tables.specs.Tables.{arraysIn}
+use Rattle.store_tables.specs.Tables.{arraysIn}
 use Rattle.drawing.specs.View.{Is}
 use Rattle.drawing.specs.Opens.{blank, Gives}
 use Rattle.panel.specs.declared.Written.{Written}

@@ -16,16 +16,16 @@ use Rattle.rules.specs.Points.{Drawing as Plan}
 use Rattle.rules.specs.Records.{several, readRecord, readEnd, fromStart, drawingHead, pointPlace, lineShape}
 use Rattle.rules.specs.OrderFile.{writeOrder}
 use Rattle.rules.specs.DrawingFile.{judgeLines, compareBytes, drawingBytes, orderBack}
-use Rattle.links.specs.declared.Added.{Added}
-use Rattle.links.specs.Arrays.{Arrays}
+use Rattle.store_links.specs.declared.Added.{Added}
+use Rattle.store_links.specs.Arrays.{Arrays}
 use Rattle.exchange.specs.Built.{Whole}
 use Rattle.exchange.specs.Results.{bound, followed, tested}
 use Rattle.drawing.specs.Places.{and-both}
 use Rattle.exchange.specs.OrderRead.{between-is}
 use Rattle.exchange.specs.Groups.{judged-built}
 use Rattle.exchange.specs.Entries.{whole-so}
-use Rattle.drawing_reader.specs.Judged.{judgeDrawing, reads-so}
-use Rattle.drawing_reader.specs.Contracted.{LinesRead}
+use Rattle.read_drawings.specs.Judged.{judgeDrawing, reads-so}
+use Rattle.read_drawings.specs.Contracted.{LinesRead}
 use Rattle.panel.specs.Outputs.{Ended}
 use Rattle.rules.specs.Answers.{accepted, refusing}
 

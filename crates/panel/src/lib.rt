@@ -1,21 +1,21 @@
 // Order files into drawing files and back, in buffers that the caller lends; and both files of a drawing, and the drawing of an order file.
 use drawing::Done;
 use drawing::Drawing;
-use links::Counts;
 use rules::Answer;
 use rules::LONGEST_DRAWING;
 use rules::Refusal;
 use rules::drawing_length;
-use tables::END;
-use tables::POINTS;
-use tables::Table;
+use store_links::Counts;
+use store_tables::END;
+use store_tables::POINTS;
+use store_tables::Table;
 ghost use mathlib.Core.Path.{_≡_};
 ghost use Rattle.rules.specs.Refusals.{good, answer};
 ghost use Rattle.rules.specs.Points.{Drawing as Plan};
 ghost use Rattle.rules.specs.OrderFile.{readOrder, writeOrder};
 ghost use Rattle.rules.specs.DrawingFile.{drawingBytes, writeDrawing, drawFile, orderBack, compareBytes};
-ghost use Rattle.tables.specs.Tables.{arraysIn};
-ghost use Rattle.stored.specs.Adding.{Holds};
+ghost use Rattle.store_tables.specs.Tables.{arraysIn};
+ghost use Rattle.store_laws.specs.Adding.{Holds};
 ghost use Rattle.exchange.specs.Built.{Reached, Whole};
 ghost use Rattle.drawing.specs.View.{Is, Came};
 ghost use Rattle.drawing.specs.Opens.{Gives};
@@ -37,8 +37,8 @@ fn put_drawing(out: &mut [u8], table: &Table, c: Counts) -> Written
         return Written::Refused(Refusal::OutputShort, 0);
     }
     let mut x = [0u16; POINTS];
-    settling::settle(&mut x, table, c.k);
-    drawing_writer::write_drawing(out, &x, table, c);
+    store_settling::settle(&mut x, table, c.k);
+    write_drawings::write_drawing(out, &x, table, c);
     Written::Bytes(need)
 }
 
@@ -47,11 +47,11 @@ fn put_order(out: &mut [u8], table: &Table, c: Counts) -> Written
     requires { ⌜ Ended (arraysIn (now table)) c ⌝ }
     ensures { λ r. ⌜ ((d : Plan) → Whole d → Holds d (arraysIn (now (table .entry))) c → Wrote (now (out .entry)) (good (writeOrder d)) (now (out .exit)) r) ⌝ }
 {
-    let length = order_writer::order_length(c);
+    let length = write_orders::order_length(c);
     if out.len() < length {
         return Written::Refused(Refusal::OutputShort, 0);
     }
-    Written::Bytes(order_writer::write_order(out, table, c))
+    Written::Bytes(write_orders::write_order(out, table, c))
 }
 
 // The drawing of an order file, by value; with a refusal goes a drawing of zeros.
@@ -59,7 +59,7 @@ pub fn drawing_of(order: &[u8]) -> Done
     ensures { λ r. ⌜ Gives (readOrder (now (order .entry))) r ⌝ }
 {
     let mut table = [0u16; END];
-    let read = order_reader::read_order(order, &mut table);
+    let read = read_orders::read_order(order, &mut table);
     let counts = read.counts;
     let answer = read.answer;
     let Answer::Accepted = answer else {
@@ -108,7 +108,7 @@ pub fn draw(order: &[u8], out: &mut [u8]) -> Written
     ensures { λ r. ⌜ Wrote (now (out .entry)) (drawFile (now (order .entry))) (now (out .exit)) r ⌝ }
 {
     let mut table = [0u16; END];
-    let given = order_reader::read_order(order, &mut table);
+    let given = read_orders::read_order(order, &mut table);
     let c = given.counts;
     let answer = given.answer;
     match answer {
@@ -125,7 +125,7 @@ fn compare_drawing(file: &[u8], table: &Table, c: Counts) -> Answer
     let mut drawn = [0u8; LONGEST_DRAWING];
     let need = drawing_length(c.n);
     put_drawing(&mut drawn, table, c);
-    comparing::compare(file, &drawn[..need])
+    read_comparing::compare(file, &drawn[..need])
 }
 
 // Reads a drawing file and gives its order file back, or the refusal of document 01.
@@ -133,7 +133,7 @@ pub fn undraw(file: &[u8], out: &mut [u8]) -> Written
     ensures { λ r. ⌜ Wrote (now (out .entry)) (orderBack (now (file .entry))) (now (out .exit)) r ⌝ }
 {
     let mut table = [0u16; END];
-    let read = drawing_reader::read_lines(file, &mut table);
+    let read = read_drawings::read_lines(file, &mut table);
     let c = read.counts;
     let answer = read.answer;
     match answer {

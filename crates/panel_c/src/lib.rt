@@ -1,12 +1,12 @@
 // What C and Rust call: numbers, slices and arrays only, and no `requires`.
 // Each call puts number and place of a refusal into two words, 0 and 0 for none.
 use cutter::Moved;
-use links::Counts;
 use panel::Written;
 use rules::Answer;
 use rules::Refusal;
-use tables::END;
-use tables::Table;
+use store_links::Counts;
+use store_tables::END;
+use store_tables::Table;
 use tool::Move;
 use tool::Tool;
 ghost use mathlib.Core.Path.{_≡_};
@@ -15,8 +15,8 @@ ghost use Rattle.rules.specs.declared.Answer.the-variants.{Accepted};
 ghost use Rattle.rules.specs.Refusals.{number};
 ghost use Rattle.rules.specs.Points.{Drawing as Plan};
 ghost use Rattle.rules.specs.DrawingFile.{drawFile, orderBack};
-ghost use Rattle.stored.specs.Adding.{Holds};
-ghost use Rattle.tables.specs.Tables.{arraysIn};
+ghost use Rattle.store_laws.specs.Adding.{Holds};
+ghost use Rattle.store_tables.specs.Tables.{arraysIn};
 ghost use Rattle.drawing.specs.View.{Came};
 ghost use Rattle.cutter.specs.Seen.{MoveSeen};
 ghost use Rattle.panel_c.specs.Exported.{countOf, refusalOf, nothingFor, Exported, CallsExported};

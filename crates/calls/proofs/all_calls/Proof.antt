@@ -3,7 +3,7 @@ use Prim.Native.Nat.{_-_}
 use native.Mathlib.Omega.{arith}
 use borrow.Author.Needs.{needs}
 use lib.ListN.{length}
-use Rattle.tables.specs.Tables.{arraysIn}
+use Rattle.store_tables.specs.Tables.{arraysIn}
 use Rattle.calls.proofs.Going.{Going, going-first, going-last, told-room, callable, turn}
 use Rattle.calls.proofs.all_calls.Statement.{statement}
 use Rattle.calls.proofs.all_calls.Tie as tie

@@ -1,6 +1,6 @@
 -- `calls::one_call` meets its contract: the place of the answer fits 16 bits, and its words are those of the judged call.
 use native.Mathlib.Omega.{arith}
-use Rattle.tables.specs.Tables.{arraysIn, table-long}
+use Rattle.store_tables.specs.Tables.{arraysIn, table-long}
 use Rattle.calls.specs.Places.{place-most}
 use borrow.Author.Needs.{needs}
 use Rattle.calls.proofs.one_call.Statement.{statement}

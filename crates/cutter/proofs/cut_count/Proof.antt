@@ -6,7 +6,7 @@ use denote.Ref.{now}
 use native.Mathlib.Omega.{arith}
 use borrow.Author.Needs.{needs}
 use Rattle.rules.specs.Entries.{entryOf}
-use Rattle.tables.specs.Tables.{arraysIn, arrays-read, wordsR}
+use Rattle.store_tables.specs.Tables.{arraysIn, arrays-read, wordsR}
 use Rattle.cutter.specs.Cuts.{cutIn, cutsTo, countTo, counts-one, counts-none}
 use Rattle.cutter.proofs.cut_count.Statement.{statement}
 use Rattle.cutter.proofs.cut_count.Tie as tie

@@ -5,8 +5,8 @@ use native.Mathlib.Omega.{arith}
 use Rattle.rules.specs.declared.Line.{Line}
 use Rattle.rules.specs.Points.{Drawing as Plan, placeOf, lineAt}
 use Rattle.rules.specs.Ports.{bendPlace}
-use Rattle.stored.specs.Adding.{Holds}
-use Rattle.tables.specs.Tables.{arraysIn}
+use Rattle.store_laws.specs.Adding.{Holds}
+use Rattle.store_tables.specs.Tables.{arraysIn}
 use Rattle.cutter.specs.Grid.{scale, point-on-grid, bend-on-grid, later-there, earlier-there, line-seen, line-sure}
 use Rattle.cutter.specs.Seen.{line-moved}
 use borrow.Author.Needs.{needs}

@@ -6,7 +6,7 @@ use denote.Ref.{now}
 use native.Mathlib.Omega.{arith}
 use borrow.Author.Needs.{needs}
 use Rattle.rules.specs.Entries.{entryOf}
-use Rattle.tables.specs.Tables.{arraysIn, arrays-read, wordsR}
+use Rattle.store_tables.specs.Tables.{arraysIn, arrays-read, wordsR}
 use Rattle.cutter.specs.Cuts.{cutIn, cutsTo, countTo, counts-one, counts-none}
 use Rattle.cutter.proofs.nth_cut.Statement.{statement}
 use Rattle.cutter.proofs.nth_cut.Tie as tie

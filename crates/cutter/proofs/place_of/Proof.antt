@@ -2,8 +2,8 @@
 use mathlib.Core.Path.{_≡_, ap, _∙_}
 use Rattle.rules.specs.Points.{Drawing as Plan}
 use Rattle.rules.specs.Lookups.{lookPoint}
-use Rattle.stored.specs.Adding.{Holds}
-use Rattle.tables.specs.Tables.{arraysIn}
+use Rattle.store_laws.specs.Adding.{Holds}
+use Rattle.store_tables.specs.Tables.{arraysIn}
 use Rattle.drawing.specs.View.{pointSeen}
 use Rattle.cutter.specs.Grid.{place-seen, place-sure}
 use borrow.Author.Needs.{needs}

@@ -1,7 +1,7 @@
 -- `add` meets its contract: the core's answer and arrays are those of the rules.
 use mathlib.Core.Path.{_≡_, _∙_}
 use lib.ListN.{length}
-use Rattle.tables.specs.Tables.{tableSize}
+use Rattle.store_tables.specs.Tables.{tableSize}
 use Rattle.drawing.specs.Adds.{ready, adds}
 use borrow.Author.Needs.{needs}
 use Rattle.drawing.proofs.add.Statement.{statement}

@@ -5,7 +5,7 @@ use mathlib.Core.Bool.{false}
 use native.Mathlib.Omega.{arith}
 use borrow.Author.Count.{below-none, below-more}
 use borrow.Author.Needs.{needs}
-use Rattle.tables.specs.Tables.{arraysIn, arrays-read, wordsR, laterR}
+use Rattle.store_tables.specs.Tables.{arraysIn, arrays-read, wordsR, laterR}
 use Rattle.drawing.specs.Cuts.{cutAt}
 use Rattle.drawing.proofs.first_cut.Statement.{statement}
 use Rattle.drawing.proofs.first_cut.Tie as tie

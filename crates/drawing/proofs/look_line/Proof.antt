@@ -2,7 +2,7 @@
 use native.Mathlib.Omega.{arith}
 use borrow.Author.Needs.{needs}
 use Rattle.promise.specs.Bounds.{lines-most}
-use Rattle.tables.specs.Tables.{table-long}
+use Rattle.store_tables.specs.Tables.{table-long}
 use Rattle.drawing.specs.Lines.{line-bends, line-seen, no-line}
 use Rattle.drawing.proofs.look_line.Statement.{statement}
 use Rattle.drawing.proofs.look_line.Tie as tie

@@ -6,7 +6,7 @@ use native.Mathlib.Omega.{arith}
 use borrow.Author.Needs.{needs}
 use borrow.Author.Tests.{not-true, not-false}
 use Rattle.rules.specs.Basics.{between}
-use Rattle.tables.specs.Tables.{arraysIn, arrays-read, ysR}
+use Rattle.store_tables.specs.Tables.{arraysIn, arrays-read, ysR}
 use Rattle.drawing.specs.Places.{range, point-seen, no-point}
 use Rattle.drawing.proofs.look_point.Statement.{statement}
 use Rattle.drawing.proofs.look_point.Tie as tie

@@ -1,6 +1,6 @@
 -- `no_drawing` meets its contract.
 use mathlib.Core.Path.{ap}
-use Rattle.opening.specs.Zeros.{zeros}
+use Rattle.store_points.specs.Zeros.{zeros}
 use borrow.Author.Needs.{needs}
 use Rattle.drawing.specs.Opens.{blank}
 use Rattle.drawing.proofs.no_drawing.Statement.{statement}

@@ -1,7 +1,7 @@
 -- `panel::put_drawing` meets its contract: with its settled x the drawing is finished, and its bytes are written.
 use mathlib.Core.Path.{_∙_}
 use native.Mathlib.Omega.{arith}
-use Rattle.tables.specs.Tables.{table-long}
+use Rattle.store_tables.specs.Tables.{table-long}
 use Rattle.drawing.specs.Places.{settleable}
 use Rattle.panel.specs.Outputs.{short, full}
 use Rattle.panel.specs.Files.{need-is, finish, writable}

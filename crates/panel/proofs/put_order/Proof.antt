@@ -1,6 +1,6 @@
 -- `panel::put_order` meets its contract.
 use native.Mathlib.Omega.{arith}
-use Rattle.tables.specs.Tables.{table-long}
+use Rattle.store_tables.specs.Tables.{table-long}
 use Rattle.panel.specs.Outputs.{short, full}
 use borrow.Author.Needs.{needs}
 use Rattle.panel.proofs.put_order.Statement.{statement}

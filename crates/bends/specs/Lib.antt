@@ -1,2 +1,0 @@
-pub mod Indexes
-pub mod Lines

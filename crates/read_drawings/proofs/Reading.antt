@@ -1,0 +1,72 @@
+-- A file that passes: the arrays as opened hold the drawing that it begins, and the groups of points 4 to n give the rest.
+use Prim.Native.Nat.{ℕ, _+_, _-_, _*_, _≤_}
+use mathlib.Core.Path.{_≡_, ap, sym, _∙_}
+use mathlib.Core.List.{List}
+use native.Mathlib.Omega.{arith}
+use lib.ListN.{length}
+use Rattle.rules.specs.declared.Refusal.{Refusal}
+use Rattle.rules.specs.declared.Answer.{Answer}
+use Rattle.rules.specs.declared.Answer.the-variants.{Refused}
+use Rattle.rules.specs.Refusals.{Result, good, refused, _>>_, answer}
+use Rattle.rules.specs.Entries.{entryOf}
+use Rattle.rules.specs.Points.{Drawing}
+use Rattle.rules.specs.DrawingFile.{entryIn, judgeRest}
+use Rattle.store_links.specs.declared.Added.{Added}
+use Rattle.store_links.specs.declared.Counts.{Counts}
+use Rattle.store_links.specs.Arrays.{Arrays}
+use Rattle.store_links.specs.Opening.{openArrays, openCounts}
+use Rattle.promise.specs.Bounds.{standing-start}
+use Rattle.store_laws.specs.Adding.{Holds}
+use Rattle.store_laws.specs.Opened.{sized-open, stores-open}
+use Rattle.read_records.specs.Results.{stops}
+use Rattle.read_groups.specs.Lines.{linesAt, lineAt}
+use Rattle.read_groups.specs.Groups.{numberFor}
+use Rattle.read_judging.specs.Files.{nIn, sIn, linesFrom, lineCount, linesEnd, fileTests}
+use Rattle.rules.specs.Records.{headSize, placeSize, lineSize}
+use Rattle.read_drawings.specs.Judged.{judgeDrawing}
+use Rattle.read_drawings.specs.Whole.{judged-so, firstLine, secondLine, thirdLine, begunIn, Passes, number-back}
+use Rattle.read_drawings.specs.Contracted.{restGroups, AllGrouped, LinesRead}
+
+-- a refusal before the groups
+pub refused-early : {f : List ℕ} {a : Arrays} {c : Counts} (said : Answer) → said ≡ answer (fileTests f) → (r : Refusal) (p : ℕ) → said ≡ Refused r p → LinesRead f a (record { answer = said; counts = c })
+refused-early {f} said h r p q =
+    let t = sym h ∙ q in
+    record {
+      answers = h ∙ stops (fileTests f) _ r p t ∙ sym (ap answer (judged-so f));
+      holds = λ d z. absurd (never (fileTests f) _ d t (sym (judged-so f) ∙ z));
+    }
+  where
+    never : (x : Result (Unit {0})) (y : Result Drawing) (d : Drawing) → answer x ≡ Refused r p → (x >> y) ≡ good d → ⊥
+    never (good u) y d e z = let o : _≡_ {A = ℕ} 0 1 = cc in omega arith
+    never (refused v i) y d e z = let o : _≡_ {A = ℕ} 0 1 = cc in omega arith
+
+-- where its lines lie
+pub lines-lie : {f : List ℕ} → Passes f → (n : ℕ) → n ≡ nIn f → (headSize + placeSize * n + lineSize * (3 * n - 6) ≤ length f) × (3 ≤ n) × (n ≤ 1024)
+lines-lie t n is = (omega (arith, t .there, t .low), omega (arith, t .low), omega (arith, t .high))
+
+module _ {f : List ℕ} (t : Passes f) (n s : ℕ) (isN : n ≡ nIn f) (isS : s ≡ sIn f) where
+  -- the arrays and the numbers as opened
+  pub opened-holds : (x y z : ℕ) (a : Arrays) (c : Counts) → x ≡ numberFor (entryIn (lineAt f (headSize + placeSize * n))) → y ≡ numberFor (entryIn (lineAt f (headSize + placeSize * n + lineSize))) → z ≡ numberFor (entryIn (lineAt f (headSize + placeSize * n + 2 * lineSize))) →
+      (a ≡ openArrays x y z) × (c ≡ openCounts n s) → Holds (begunIn f) a c
+  opened-holds x y z a c hx hy hz (ha, hc) =
+      let ex : entryOf x ≡ record { point = 1; cut = entryIn (firstLine f) .cut } =
+      ap entryOf (hx ∙ ap (λ (m : ℕ). numberFor (entryIn (lineAt f (headSize + placeSize * m)))) isN) ∙ number-back (firstLine f) 1 (t .first) (omega arith)
+      in
+      let ey : entryOf y ≡ record { point = 1; cut = entryIn (secondLine f) .cut } =
+      ap entryOf (hy ∙ ap (λ (m : ℕ). numberFor (entryIn (lineAt f (headSize + placeSize * m + lineSize)))) isN) ∙ number-back (secondLine f) 1 (t .second) (omega arith)
+      in
+      let ez : entryOf z ≡ record { point = 2; cut = entryIn (thirdLine f) .cut } =
+      ap entryOf (hz ∙ ap (λ (m : ℕ). numberFor (entryIn (lineAt f (headSize + placeSize * m + 2 * lineSize)))) isN) ∙ number-back (thirdLine f) 2 (t .third) (omega arith)
+      in
+      rw (ha, hc, isN, isS)
+      (record { standing = standing-start (nIn f) (sIn f) _ _ _ (t .low) (t .high); sized = sized-open (nIn f) (sIn f) (entryIn (firstLine f) .cut) (entryIn (secondLine f) .cut) (entryIn (thirdLine f) .cut) x y z; stores = stores-open (nIn f) (sIn f) _ _ _ x y z ex ey ez })
+
+  -- what is left to judge
+  left-over : {c : Counts} → c ≡ openCounts n s → restGroups f (headSize + placeSize * n) (3 * n - 6) c (begunIn f) ≡ judgeDrawing f
+  left-over e =
+      ap (λ (c : Counts). restGroups f (headSize + placeSize * n) (3 * n - 6) c (begunIn f)) e ∙
+      ap (λ (m : ℕ). judgeRest (m - 3) (linesEnd m) (begunIn f) (linesAt f (lineCount m - 3) (linesFrom m + 3 * lineSize))) isN ∙ sym (t .left)
+
+  -- the whole file
+  pub all-read : {a a′ : Arrays} {c : Counts} {r : Added} → c ≡ openCounts n s → Holds (begunIn f) a c → AllGrouped f (headSize + placeSize * n) (3 * n - 6) a c a′ r → LinesRead f a′ r
+  all-read e h g = record { answers = g .answers (begunIn f) h ∙ ap answer (left-over e); holds = λ d q. g .holds (begunIn f) d h (left-over e ∙ q) }

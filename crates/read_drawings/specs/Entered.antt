@@ -1,0 +1,85 @@
+-- A call with the numbers that stand for a group's entries is judged as the entries are.
+use Prim.Native.Nat.{ℕ, suc, _<_}
+use mathlib.Core.Path.{_≡_, refl, ap, ap₂, sym, _∙_}
+use mathlib.Core.Bool.{Bool, true, false, not, _||_}
+use mathlib.Core.List.{List, [], _∷_, map}
+use native.Mathlib.Omega.{arith}
+use lib.ListN.{length, length-map}
+use lib.Dec.{ltb, eqb, leb}
+use borrow.Author.Tests.{ne-eqb, ltb-true, ltb-false, lt-ltb}
+use Rattle.rules.specs.declared.Entry.{Entry}
+use Rattle.rules.specs.declared.Refusal.{Refusal}
+use Rattle.rules.specs.declared.Refusal.the-variants.{Finished, FewEntries, NotPlaced, Covered}
+use Rattle.rules.specs.Basics.{elem}
+use Rattle.rules.specs.Refusals.{Result, good, refused, _>>_, refuseIf}
+use Rattle.rules.specs.Entries.{entryOf, pointLimit}
+use Rattle.rules.specs.Points.{Drawing}
+use Rattle.rules.specs.Adding.{pointsOf, entryTests, judge, addEntries, add}
+use Rattle.rules.specs.RoundTrip.{entry-back}
+use Rattle.read_records.specs.Results.{passed}
+use Rattle.read_groups.specs.Groups.{numberFor}
+
+-- an entry, as its number is read back
+abbrev readBack : Entry → Entry
+readBack e = entryOf (numberFor e)
+
+module _ (d : Drawing) (few : d .k < pointLimit) where
+  -- an entry is refused as what is read back, or is that
+  data Alike (e : Entry) : Type 0 where
+    equal : readBack e ≡ e → Alike e
+    absent : (eqb (e .point) 0 || ltb (d .k) (e .point)) ≡ true → readBack e .point ≡ 0 → Alike e
+
+  alike : (e : Entry) → Alike e
+  alike e = go (ltb (e .point) pointLimit) refl
+    where
+      go : (t : Bool) → ltb (e .point) pointLimit ≡ t → Alike e
+      go true q = equal (rw q (entry-back e (ltb-true (e .point) pointLimit q)))
+      go false q = let h = ltb-false (e .point) pointLimit q in absent (rw (ne-eqb (e .point) 0 (omega arith), lt-ltb (d .k) (e .point) (omega arith))) (rw q)
+
+  -- 6 and 7
+  tests-alike : (i : ℕ) (es : List Entry) → entryTests d i (pointsOf es) ≡ entryTests d i (pointsOf (map readBack es))
+  tests-alike i [] = refl
+  tests-alike i (e ∷ es) = go (alike e) (tests-alike (suc i) es)
+    where
+      go : Alike e → entryTests d (suc i) (pointsOf es) ≡ entryTests d (suc i) (pointsOf (map readBack es)) →
+          entryTests d i (pointsOf (e ∷ es)) ≡ entryTests d i (pointsOf (map readBack (e ∷ es)))
+      go (equal q) t = let same : readBack e .point ≡ e .point = ap (λ (x : Entry). x .point) q in rw (same, t)
+      go (absent q r) t = rw (q, r)
+
+  -- entries that pass read back
+  pass-alike : (i : ℕ) (es : List Entry) → entryTests d i (pointsOf es) ≡ good tt → map readBack es ≡ es
+  pass-alike i [] h = refl
+  pass-alike i (e ∷ es) h =
+      let six = passed (eqb (e .point) 0 || ltb (d .k) (e .point)) NotPlaced i _ h in
+      let seven = passed (not (elem (e .point) (d .boundary))) Covered i _ (six .1) in
+      go (alike e) (six .0) (pass-alike (suc i) es (seven .1))
+    where
+      go : Alike e → (eqb (e .point) 0 || ltb (d .k) (e .point)) ≡ false → map readBack es ≡ es → map readBack (e ∷ es) ≡ e ∷ es
+      go (equal q) t r = ap₂ (λ (x : Entry) (l : List Entry). x ∷ l) q r
+      go (absent q z) t r = absurd (let o : _≡_ {A = ℕ} 0 1 = cc in omega arith)
+
+  -- a refusal is the same, whatever would follow
+  refused-alike : {A : Type 0} (a b : Result (Unit {0})) (r : Refusal) (p : ℕ) (x y : Result A) →
+      let stopped : Result (Unit {0}) = refused r p in
+      ((a >> (b >> stopped)) >> x) ≡ ((a >> (b >> stopped)) >> y)
+  refused-alike (good u) (good v) r p x y = refl
+  refused-alike (good u) (refused f q) r p x y = refl
+  refused-alike (refused f q) b r p x y = refl
+
+  length-points : (es : List Entry) → length (pointsOf (map readBack es)) ≡ length (pointsOf es)
+  length-points es = length-map (map readBack es) (λ e. e .point) ∙ length-map es readBack ∙ sym (length-map es (λ e. e .point))
+
+  read-twice : (es : List Entry) → map readBack es ≡ map entryOf (map numberFor es)
+  read-twice [] = refl
+  read-twice (e ∷ es) = ap (λ (l : List Entry). readBack e ∷ l) (read-twice es)
+
+  by-tests : (es : List Entry) (t : Result (Unit {0})) → entryTests d 0 (pointsOf es) ≡ t → addEntries d es ≡ addEntries d (map readBack es)
+  unfolding addEntries judge
+  by-tests es (good u) q = ap (addEntries d) (sym (pass-alike 0 es q))
+  by-tests es (refused r p) q =
+      rw (length-points es, q, sym (tests-alike 0 es) ∙ q)
+      (refused-alike (refuseIf (leb (d .n) (d .k)) Finished 0) (refuseIf (ltb (length (pointsOf es)) 2) FewEntries 0) r p _ _)
+
+  -- a call with the numbers is judged as the entries are
+  pub add-alike : (es : List Entry) → addEntries d es ≡ add d (map numberFor es)
+  add-alike es = by-tests es (entryTests d 0 (pointsOf es)) refl ∙ ap (addEntries d) (read-twice es)

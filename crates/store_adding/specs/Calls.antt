@@ -1,0 +1,34 @@
+-- What a call on the arrays asks, and what it leaves.
+use Prim.Native.Nat.{ℕ, _-_, _+_, _<_, _≤_}
+use mathlib.Core.Path.{_≡_}
+use mathlib.Core.List.{List}
+use lib.ListN.{length}
+use Rattle.rules.specs.Refusals.{answer}
+use Rattle.rules.specs.Points.{Drawing}
+use Rattle.store_links.specs.declared.Added.{Added}
+use Rattle.store_links.specs.declared.Counts.{Counts}
+use Rattle.store_links.specs.Arrays.{Arrays, atPoint}
+use Rattle.store_links.specs.Placing.{entryPoint, way}
+use Rattle.store_links.specs.Runs.{Within}
+use Rattle.store_links.specs.Storing.{judged, arraysAfter, countsAfter}
+use Rattle.store_laws.specs.Adding.{Holds}
+
+-- the arrays and numbers hold a drawing that came from opening and calls
+pub record Ready (a : Arrays) (c : Counts) : Type 0 where
+  pub d : Drawing
+  pub holds : Holds d a c
+
+-- the call is judged, and the arrays and numbers are those after it
+pub record Answered (a : Arrays) (c : Counts) (es : List ℕ) (a′ : Arrays) (r : Added) : Type 0 where
+  pub answer : r .answer ≡ answer (judged a c es)
+  pub arrays : a′ ≡ arraysAfter (judged a c es) a c es
+  pub counts : r .counts ≡ countsAfter (judged a c es) c es
+
+-- the entries are a run, whose ends rise less than they lie apart
+pub record Runs (es : List ℕ) (a : Arrays) : Type 0 where
+  pub some : 1 < length es
+  pub most : length es ≤ 1024
+  pub within : Within 1024 es
+  pub far : way (a .gap) es (length es - 1) < 4294967296
+  pub rise-l : atPoint (a .ys) (entryPoint es 0) ≤ way (a .gap) es (length es - 1) + atPoint (a .ys) (entryPoint es (length es - 1))
+  pub rise-r : atPoint (a .ys) (entryPoint es (length es - 1)) ≤ way (a .gap) es (length es - 1) + atPoint (a .ys) (entryPoint es 0)

@@ -1,0 +1,166 @@
+-- What is known of a call that passes the tests before 25, and how each outcome answers it.
+use Prim.Native.Nat.{ℕ, _+_, _-_, _<_, _≤_}
+use mathlib.Core.Path.{_≡_, refl, sym, ap, _∙_}
+use mathlib.Core.Bool.{Bool, true, false, not}
+use mathlib.Core.List.{List, map}
+use native.Mathlib.Omega.{arith}
+use lib.ListN.{length}
+use Rattle.rules.specs.declared.Answer.{Answer}
+use Rattle.rules.specs.declared.Answer.the-variants.{Accepted, Refused}
+use Rattle.rules.specs.declared.Refusal.{Refusal}
+use Rattle.rules.specs.declared.Refusal.the-variants.{NoReach}
+use Rattle.rules.specs.Refusals.{Result, good, refused, _>>_, refuseIf, answer}
+use Rattle.rules.specs.Entries.{entryOf}
+use Rattle.store_links.specs.declared.Counts.{Counts}
+use Rattle.store_links.specs.declared.Spot.{Spot}
+use Rattle.store_links.specs.Arrays.{Arrays, Sized}
+use Rattle.store_links.specs.Judging.{passes}
+use Rattle.store_links.specs.Placing.{changeFrom, allReachFrom, innerCount}
+use Rattle.store_links.specs.Runs.{Within, Distinct}
+use Rattle.store_links.specs.Storing.{spotFor, judged, withPoint, withCounts}
+use Rattle.store_laws.specs.Tests.{passes-is, five-passed, run-within, run-distinct}
+use Rattle.store_laws.specs.Reading.{run-size}
+use Rattle.store_laws.specs.Spots.{Bounded, bounded, spot-h}
+use Rattle.store_laws.specs.Step.{lines-fit}
+use Rattle.store_judging.specs.Passed.{within-up}
+use Rattle.store_placing.specs.declared.Ports.{Ports}
+use Rattle.store_placing.specs.declared.Ports.the-variants as Ports
+use Rattle.store_placing.specs.Ports.{portsFor, from-told, none-told}
+use Rattle.store_placing.specs.Small.{Small}
+use Rattle.store_points.specs.Storable.{Storable}
+use Rattle.store_adding.specs.Calls.{Ready, Answered, Runs}
+
+-- the tests before 25
+abbrev pub tests : Arrays → Counts → List ℕ → Result (Unit {0})
+tests a c es = passes (a .owner) (a .next) (c .n) (c .k) (c .m) es
+
+-- a call that passed them, in numbers
+pub record Passing (a : Arrays) (c : Counts) (es : List ℕ) : Type 0 where
+  pub all-good : tests a c es ≡ good tt
+  pub sized : Sized a
+  pub some : 1 < length es
+  pub fits : length es ≤ c .m
+  pub border : c .m ≤ 1024
+  pub room : c .k < 1024
+  pub lines : c .lines + length es ≤ 3072
+  pub within : Within (c .k) es
+  pub distinct : Distinct es
+  pub bounded : Bounded a (c .k) es
+  pub h : spotFor a es .h ≤ length es
+
+-- Such a call on a drawing that is ready has a run of the boundary, so the numbers are bounded.
+pub passing : {a : Arrays} {c : Counts} → Ready a c → (es : List ℕ) → tests a c es ≡ good tt → Passing a c es
+passing {a} {c} r es h =
+    let d = r .d in
+    let t = r .holds .stores in
+    let s = r .holds .standing .sound in
+    let g = r .holds .standing .ranged in
+    let p = five-passed d (map entryOf es) (sym (passes-is t s es) ∙ h) in
+    let q = p .run in
+    let room : d .k < 1024 = omega (arith, p .room, g .high) in
+    record {
+      all-good = h;
+      sized = r .holds .sized;
+      some = omega (arith, run-size es q, q .lr);
+      fits = omega (arith, run-size es q, q .rm, t .m);
+      border = omega (arith, t .m, g .border);
+      room = omega (arith, t .k);
+      lines = omega (arith, t .lines, lines-fit d es _ _ s room q);
+      within = rw (t .k) (run-within es s q);
+      distinct = run-distinct es s q;
+      bounded = rw (t .k) (bounded es t s q);
+      h = omega (arith, spot-h es t s q);
+    }
+
+module _ {a : Arrays} {c : Counts} {es : List ℕ} (p : Passing a c es) where
+  pub all-within : Within 1024 es
+  all-within = within-up (c .k) 1024 es (omega (arith, p .room)) (p .within)
+
+  pub most : length es ≤ 1024
+  most = omega (arith, p .fits, p .border)
+
+  -- what spot_over asks
+  pub runs : Runs es a
+  runs =
+      record {
+        some = p .some;
+        most = most;
+        within = all-within;
+        far = omega (arith, p .bounded .way (length es - 1) (omega (arith, p .some)), p .room);
+        rise-l = omega (arith, p .bounded .rise-l);
+        rise-r = omega (arith, p .bounded .rise-r);
+      }
+
+  -- what all_reach and change_at ask of the spot
+  pub small : (o : Spot) → o ≡ spotFor a es → Small o
+  small o e =
+      rw e
+      (record {
+        dx = omega (arith, p .bounded .dx, p .room);
+        y = omega (arith, p .bounded .y, p .room);
+        h = omega (arith, p .h, most);
+        s1 = omega (arith, p .bounded .s1);
+      })
+
+  -- what store asks
+  pub storable : (o : Spot) → o ≡ spotFor a es → Storable a c es o
+  storable o e =
+      rw e
+      (record {
+        entries = p .some;
+        within = p .within;
+        distinct = p .distinct;
+        points = p .room;
+        lines = p .lines;
+        dx = omega (arith, p .bounded .dx, p .room);
+        rest = omega (arith, p .bounded .rest, p .room);
+        y = omega (arith, p .bounded .y, p .room);
+        h = omega (arith, p .h, most);
+        near = omega (arith, p .bounded .way (innerCount es) (omega (arith, p .some)), p .bounded .s1, p .room);
+        rights = omega (arith, p .bounded .rights, p .room);
+        lefts = omega (arith, p .bounded .lefts, p .room);
+      })
+
+-- ---- the three outcomes
+
+-- an answer that refuses comes from a refusal
+refused-is : (r : Result (Unit {0})) (f : Refusal) (p : ℕ) → answer r ≡ Refused f p → r ≡ refused f p
+refused-is (good tt) f p h = cc
+refused-is (refused g q) f p h = cc
+
+-- judged, once the tests before 25 are known
+judged-by : (a : Arrays) (c : Counts) (es : List ℕ) (r : Result (Unit {0})) → tests a c es ≡ r →
+    judged a c es ≡ (r >> refuseIf (not (allReachFrom (spotFor a es) (a .gap) (a .ys) es 1 (innerCount es))) NoReach 0)
+unfolding judged
+judged-by a c es r e = ap (λ j. j >> refuseIf (not (allReachFrom (spotFor a es) (a .gap) (a .ys) es 1 (innerCount es))) NoReach 0) e
+
+-- A refused call leaves everything.
+stays : (a : Arrays) (c : Counts) (es : List ℕ) (v : Answer) (f : Refusal) (p : ℕ) → v ≡ Refused f p → judged a c es ≡ refused f p → Answered a c es a (record { answer = v; counts = c })
+stays a c es v f p q j = record { answer = rw j q; arrays = rw j; counts = rw j }
+
+-- The tests before 25 refuse.
+pub refused-early : (a : Arrays) (c : Counts) (es : List ℕ) (v : Answer) (f : Refusal) (p : ℕ) → v ≡ answer (tests a c es) → v ≡ Refused f p → Answered a c es a (record { answer = v; counts = c })
+refused-early a c es v f p said is = stays a c es v f p is (judged-by a c es (refused f p) (refused-is (tests a c es) f p (sym said ∙ is)))
+
+module _ (a : Arrays) (c : Counts) (es : List ℕ) (o : Spot) (all-good : tests a c es ≡ good tt) (at : o ≡ spotFor a es) where
+  -- where the ports change, and 25, by the spot that the code computed
+  abbrev pub change : ℕ
+  change = changeFrom o (a .gap) (a .ys) es 1 (innerCount es)
+
+  abbrev pub all : Bool
+  all = allReachFrom o (a .gap) (a .ys) es 1 (innerCount es)
+
+  reach-by : (b : Bool) → all ≡ b → judged a c es ≡ refuseIf (not b) NoReach 0
+  reach-by b e = judged-by a c es (good tt) all-good ∙ rw (sym e, at)
+
+  -- 25 refuses.
+  pub refused-late : (r : Ports) → r ≡ portsFor change all → r ≡ Ports.NoReach → Answered a c es a (record { answer = Refused NoReach 0; counts = c })
+  refused-late r e q = stays a c es (Refused NoReach 0) NoReach 0 refl (reach-by false (none-told change all (sym e ∙ q)))
+
+  -- The call is accepted.
+  pub taken : (r : Ports) → r ≡ portsFor change all → (from : ℕ) → r ≡ Ports.From from →
+      (a′ : Arrays) → a′ ≡ withPoint a c es o from → (n : Counts) → n ≡ withCounts c (length es) → Answered a c es a′ (record { answer = Accepted; counts = n })
+  taken r e from q a′ stored n counted =
+      let t = from-told change from all (sym e ∙ q) in
+      let j : judged a c es ≡ good tt = reach-by true (t .0) in
+      record { answer = rw j; arrays = rw j (stored ∙ rw (t .1, at)); counts = rw j counted }

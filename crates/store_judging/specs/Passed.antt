@@ -1,0 +1,78 @@
+-- What the entries of a call that these tests accept are known to be, and 6 and 7 entry by entry.
+use Prim.Native.Nat.{ℕ, zero, suc, _+_, _<_, _≤_}
+use mathlib.Core.Path.{_≡_, refl, sym, _∙_}
+use mathlib.Core.Bool.{Bool, true, false, not, _||_}
+use mathlib.Core.List.{List, [], _∷_}
+use native.Mathlib.Nat.{le-trans, pos-of-ne-zero}
+use native.Mathlib.Numerals.{add-one}
+use native.Mathlib.Omega.{arith}
+use lib.ListN.{length, getD, drop}
+use lib.Seq.{drop-cons}
+use lib.Dec.{ltb, eqb}
+use borrow.Author.Tests.{ltb-false, eqb-false}
+use Rattle.rules.specs.declared.Refusal.{Refusal}
+use Rattle.rules.specs.declared.Refusal.the-variants.{NotPlaced, Covered}
+use Rattle.rules.specs.declared.Answer.{Answer}
+use Rattle.rules.specs.declared.Answer.the-variants.{Accepted, Refused}
+use Rattle.rules.specs.Refusals.{Result, good, refused, _>>_, refuseIf, answer}
+use Rattle.rules.specs.Answers.{accepted, refusing}
+use Rattle.store_links.specs.Arrays.{atPoint}
+use Rattle.store_links.specs.Judging.{pointIn, entriesPass}
+use Rattle.store_links.specs.Placing.{entryPoint}
+use Rattle.store_links.specs.Runs.{Within}
+
+-- a test that was passed is false, and the tests behind it are passed
+pub behind : (b : Bool) (f : Refusal) (p : ℕ) (r : Result (Unit {0})) → (refuseIf b f p >> r) ≡ good tt → (b ≡ false) × (r ≡ good tt)
+behind true f p r h = (cc, cc)
+behind false f p r h = (refl, h)
+
+or-false : (a b : Bool) → (a || b) ≡ false → (a ≡ false) × (b ≡ false)
+or-false true b h = (h, cc)
+or-false false b h = (refl, h)
+
+-- one more entry whose point is placed
+within-more : (k e : ℕ) (es : List ℕ) → 0 < pointIn e → pointIn e ≤ k → Within k es → Within k (e ∷ es)
+within-more k e es above below rest = record { low = low; high = high }
+  where
+    low : (i : ℕ) → i < length (e ∷ es) → 0 < entryPoint (e ∷ es) i
+    low zero h = above
+    low (suc i) h = rest .low i (omega arith)
+
+    high : (i : ℕ) → i < length (e ∷ es) → entryPoint (e ∷ es) i ≤ k
+    high zero h = below
+    high (suc i) h = rest .high i (omega arith)
+
+-- entries that pass 6 and 7 are placed
+pub entries-within : (owner : List ℕ) (k i : ℕ) (es : List ℕ) → entriesPass owner k i es ≡ good tt → Within k es
+entries-within owner k i [] h = record { low = λ j l. absurd (omega arith); high = λ j l. absurd (omega arith) }
+entries-within owner k i (e ∷ es) h =
+    let six = behind (eqb (pointIn e) 0 || ltb k (pointIn e)) NotPlaced i _ h in
+    let seven = behind (not (eqb (atPoint owner (pointIn e)) 0)) Covered i _ (six .1) in
+    let t = or-false (eqb (pointIn e) 0) (ltb k (pointIn e)) (six .0) in
+    within-more k e es (pos-of-ne-zero (eqb-false (pointIn e) 0 (t .0))) (ltb-false k (pointIn e) (t .1))
+    (entries-within owner k (suc i) es (seven .1))
+
+-- among more points too
+pub within-up : (k l : ℕ) (es : List ℕ) → k ≤ l → Within k es → Within l es
+within-up k l es h w = record { low = w .low; high = λ i b. le-trans (w .high i b) h }
+
+-- ---- a loop over the entries, at entry i
+
+-- 6 and 7 of one entry, then those of the entries behind it
+entry-then : (owner : List ℕ) (k i e : ℕ) (es : List ℕ) → entriesPass owner k i (e ∷ es) ≡ (entriesPass owner k i (e ∷ []) >> entriesPass owner k (suc i) es)
+entry-then owner k i e es = go (eqb (pointIn e) 0 || ltb k (pointIn e)) (not (eqb (atPoint owner (pointIn e)) 0)) (entriesPass owner k (suc i) es)
+  where
+    go : (a b : Bool) (rest : Result (Unit {0})) → (refuseIf a NotPlaced i >> (refuseIf b Covered i >> rest)) ≡ ((refuseIf a NotPlaced i >> (refuseIf b Covered i >> good (tt {0}))) >> rest)
+    go true b rest = refl
+    go false true rest = refl
+    go false false rest = refl
+
+module _ (owner es : List ℕ) (k i w : ℕ) (more : i < length es) (is : w ≡ getD es i 0) {said : Answer} (answers : said ≡ answer (entriesPass owner k i (w ∷ []))) where
+  turn : entriesPass owner k i (drop i es) ≡ (entriesPass owner k i (w ∷ []) >> entriesPass owner k (i + 1) (drop (i + 1) es))
+  turn = rw (drop-cons es i 0 more, ← is, add-one) (entry-then owner k i w (drop (suc i) es))
+
+  pub entry-refused : (f : Refusal) (p : ℕ) → said ≡ Refused f p → entriesPass owner k i (drop i es) ≡ refused f p
+  entry-refused f p h = turn ∙ rw (refusing (entriesPass owner k i (w ∷ [])) f p (sym answers ∙ h))
+
+  pub entry-passed : said ≡ Accepted → entriesPass owner k i (drop i es) ≡ entriesPass owner k (i + 1) (drop (i + 1) es)
+  entry-passed h = turn ∙ rw (accepted (entriesPass owner k i (w ∷ [])) (sym answers ∙ h) .is)

@@ -1,0 +1,41 @@
+-- The arrays and numbers of no drawing, and of a drawing as opened, with the entries of lines 1-2, 3-1 and 3-2 as 16-bit numbers.
+use Prim.Native.Nat.{ℕ}
+use mathlib.Core.List.{List}
+use lib.ListN.{replicate, set}
+use Rattle.rules.specs.declared.Bend.the-variants.{Left, Right, Straight}
+use Rattle.store_links.specs.declared.Counts.{Counts}
+use Rattle.store_links.specs.Codes.{bendCode}
+use Rattle.store_links.specs.Arrays.{Arrays}
+use Rattle.store_links.specs.Storing.{putAt}
+
+-- 1,024 and 3,072 zeros
+abbrev pub noPoints : List ℕ
+noPoints = replicate 1024 0
+
+abbrev pub noLines : List ℕ
+noLines = replicate 3072 0
+
+-- the list with three lines' numbers
+abbrev pub threeLines : ℕ → ℕ → ℕ → List ℕ
+threeLines a b c = set (set (set noLines 0 a) 1 b) 2 c
+
+unfoldable pub openArrays : ℕ → ℕ → ℕ → Arrays
+openArrays a b c =
+    record {
+      next = putAt (putAt noPoints 1 3) 3 2;
+      gap = putAt (putAt noPoints 3 3) 2 3;
+      owner = noPoints;
+      ys = putAt noPoints 3 2;
+      dls = putAt noPoints 2 1;
+      drs = putAt noPoints 1 1;
+      hs = noPoints;
+      words = threeLines a b c;
+      later = threeLines 2 3 3;
+      bends = threeLines (bendCode Straight) (bendCode (Right 1)) (bendCode (Left 1));
+    }
+
+abbrev pub noCounts : Counts
+noCounts = record { n = 0; s = 0; k = 0; m = 0; lines = 0 }
+
+abbrev pub openCounts : ℕ → ℕ → Counts
+openCounts n s = record { n = n; s = s; k = 3; m = 3; lines = 3 }

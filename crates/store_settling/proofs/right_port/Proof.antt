@@ -1,0 +1,20 @@
+-- `store_settling::right_port`: the place is the definition's.
+use mathlib.Core.Path.{refl}
+use borrow.Author.Needs.{needs}
+use Rattle.store_settling.proofs.right_port.Statement.{statement}
+use Rattle.store_settling.proofs.right_port.Tie as tie
+
+add-t5 : tie.Need-add-t5
+add-t5 c = search needs
+
+add-t6 : tie.Need-add-t6
+add-t6 c = search needs
+
+add-t7 : tie.Need-add-t7
+add-t7 c = search needs
+
+returns : tie.Need-returns
+returns c = refl
+
+pub right-port-spec : {M : Type 1} → statement M
+right-port-spec = tie.close (tie.spec add-t5 add-t6 add-t7 returns)

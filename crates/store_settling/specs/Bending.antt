@@ -1,0 +1,100 @@
+-- The bends that the arrays give are those of the drawing, and those of a sound drawing can be found.
+use Prim.Native.Nat.{ℕ, pred, _+_, _<_, _≤_}
+use mathlib.Core.Path.{_≡_, refl, sym, ap, _∙_}
+use mathlib.Core.List.{List}
+use native.Mathlib.Omega.{arith}
+use lib.ListN.{length, getD, take}
+use lib.Seq.{getD-take}
+use Rattle.rules.specs.declared.Bend.{Bend}
+use Rattle.rules.specs.declared.Bend.the-variants.{Left, Right, Middle, Straight}
+use Rattle.rules.specs.Points.{Drawing, xOf, yOf, dlOf, drOf, hOf, lineAt}
+use Rattle.rules.specs.Ports.{bendOf}
+use Rattle.net.specs.Side.{rt, lf}
+use Rattle.net.specs.Frame.{point-in}
+use Rattle.net.specs.Ports.{aside-of}
+use Rattle.promise.specs.Nets.{kindOf}
+use Rattle.promise.specs.Sound.{Sound}
+use Rattle.store_links.specs.declared.Counts.{Counts}
+use Rattle.store_links.specs.Arrays.{Arrays, Stores, atPoint}
+use Rattle.store_settling.specs.Bends.{bendIn, PortFits, Bendable}
+
+-- the first numbers of the x and of the arrays are the drawing's
+pub record Shows (d : Drawing) (xs : List ℕ) (a : Arrays) : Type 0 where
+  pub x : take (d .k) xs ≡ d .xs
+  pub y : take (d .k) (a .ys) ≡ d .ys
+  pub dl : take (d .k) (a .dls) ≡ d .dls
+  pub dr : take (d .k) (a .drs) ≡ d .drs
+  pub h : take (d .k) (a .hs) ≡ d .hs
+
+-- The settled x and the arrays that store a drawing show it.
+pub shows-of : {d : Drawing} {a : Arrays} {c : Counts} {xs : List ℕ} → take (d .k) xs ≡ d .xs → Stores d a c → Shows d xs a
+shows-of e s = record { x = e; y = s .ys; dl = s .dls; dr = s .drs; h = s .hs }
+
+-- A number of a placed point, read from the longer list.
+same-at : (l : List ℕ) {l′ : List ℕ} (k p : ℕ) → take k l ≡ l′ → 0 < p → p ≤ k → atPoint l p ≡ atPoint l′ p
+same-at l k p e a b = sym (getD-take k l (pred p) 0 (omega arith)) ∙ ap (λ (m : List ℕ). getD m (pred p) 0) e
+
+module _ {d : Drawing} {xs : List ℕ} {a : Arrays} (s : Shows d xs a) where
+  -- The numbers of a placed point are the drawing's.
+  pub record Seen (p : ℕ) : Type 0 where
+    pub x : atPoint xs p ≡ xOf d p
+    pub y : atPoint (a .ys) p ≡ yOf d p
+    pub dl : atPoint (a .dls) p ≡ dlOf d p
+    pub dr : atPoint (a .drs) p ≡ drOf d p
+    pub h : atPoint (a .hs) p ≡ hOf d p
+
+  seen : (p : ℕ) → 0 < p → p ≤ d .k → Seen p
+  seen p l u =
+      record {
+        x = same-at xs (d .k) p (s .x) l u;
+        y = same-at (a .ys) (d .k) p (s .y) l u;
+        dl = same-at (a .dls) (d .k) p (s .dl) l u;
+        dr = same-at (a .drs) (d .k) p (s .dr) l u;
+        h = same-at (a .hs) (d .k) p (s .h) l u;
+      }
+
+  bend-by : (later earlier : ℕ) → Seen later → Seen earlier → Seen 1 → (b : Bend) → bendIn xs a later earlier b ≡ bendOf d later earlier b
+  bend-by later earlier v u o (Left j) = rw (u .x, u .y, u .dl)
+  bend-by later earlier v u o (Right j) = rw (u .x, u .y, u .dr)
+  bend-by later earlier v u o (Middle i) = rw (v .x, v .y, v .h)
+  bend-by later earlier v u o Straight = rw (o .x, o .y)
+
+  -- So the bend read from the lists is the drawing's.
+  pub bend-right : (later earlier : ℕ) → 0 < later → later ≤ d .k → 0 < earlier → earlier ≤ d .k → (b : Bend) →
+      bendIn xs a later earlier b ≡ bendOf d later earlier b
+  bend-right later earlier l u c e = bend-by later earlier (seen later l u) (seen earlier c e) (seen 1 (omega arith) (omega arith))
+
+  module _ (sound : Sound d) (small : d .k ≤ 1024) (e : ℕ) (el : e < length (d .lines)) where
+    -- The later point lies in the frame, which is small.
+    in-frame : xOf d (lineAt d e .later) + yOf d (lineAt d e .later) < 5120
+    in-frame = omega (arith, point-in (sound .inv) (sound .border) (pred (lineAt d e .later)) (sound .inv .core .lines .ends e el .1) .b, sound .border .width)
+
+    -- So do the ports of a line.
+    fits-by : (b : Bend) → lineAt d e .bend ≡ b → Seen (lineAt d e .later) → Seen (lineAt d e .earlier) →
+        PortFits xs a (lineAt d e .later) (lineAt d e .earlier) b
+    fits-by (Left j) q v u =
+        let t = sound .inv .slopes .slope lf j e el (ap kindOf q) in
+        let f = aside-of _ (ap kindOf q) (sound .inv .core .lines .fits e el) in
+        omega (arith, in-frame, f .2)
+    fits-by (Right j) q v u =
+        let t = sound .inv .slopes .slope rt j e el (ap kindOf q) in
+        let f = aside-of _ (ap kindOf q) (sound .inv .core .lines .fits e el) in
+        omega (arith, in-frame, f .2)
+    fits-by (Middle i) q v u =
+        let t = sound .inv .slopes .reach i e el (ap kindOf q) in
+        omega (arith, in-frame, sound .inv .core .points .frame (pred (lineAt d e .later)) (sound .inv .core .lines .ends e el .1))
+    fits-by Straight q v u = tt
+
+    -- The bend of a line of a sound drawing can be found.
+    pub bendable-of : length xs ≡ 1024 → Bendable xs a (lineAt d e .later) (lineAt d e .earlier) (lineAt d e .bend)
+    bendable-of long =
+        let some = sound .ended .ends e el in
+        let ends : (pred (lineAt d e .earlier) < d .k) × (pred (lineAt d e .later) < d .k) = sound .inv .core .lines .ends e el in
+        let v : lineAt d e .later ≤ d .k = omega (arith, ends .1, some .1) in
+        let u : lineAt d e .earlier ≤ d .k = omega (arith, ends .0, some .0) in
+        record {
+          long = long;
+          later-in = (some .1, omega arith);
+          earlier-in = (some .0, omega arith);
+          fits = fits-by (lineAt d e .bend) refl (seen (lineAt d e .later) (some .1) v) (seen (lineAt d e .earlier) (some .0) u);
+        }

@@ -1,0 +1,9 @@
+pub mod Walk
+pub mod Hang
+pub mod Placed
+pub mod Few
+pub mod Settling
+pub mod Bends
+pub mod Bending
+pub mod Indexes
+pub mod Lines

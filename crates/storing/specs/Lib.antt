@@ -1,2 +1,0 @@
-pub mod Storable
-pub mod Stages
