@@ -17,7 +17,7 @@ use Rattle.store_links.specs.declared.Counts.{Counts}
 use Rattle.store_links.specs.Arrays.{Arrays}
 use Rattle.store_laws.specs.Adding.{Holds}
 use Rattle.drawing.specs.declared.CutSeen.the-variants as Cut
-use Rattle.drawing.specs.Places.{and-both}
+use Rattle.rules.specs.Bools.{both}
 use Rattle.drawing.specs.View.{sought}
 
 -- a line with this entry and this later point is cut and ends at p
@@ -61,8 +61,8 @@ module _ {q : Plan} {a : Arrays} {c : Counts} (h : Holds q a c) (p : ℕ) where
     pub finds : r < c .lines → LooksCut q p (sought (Cut.Line r))
     finds b =
         let el : r < length (q .lines) = omega (arith, h .stores .lines) in
-        let both = and-both (lineAt q r .cut) (endsAt p (lineAt q r)) (sym (cut-is r el) ∙ f .found b) in
-        (point-there, record { there = el; isCut = both .0; ends = both .1 })
+        let t = both (lineAt q r .cut) (endsAt p (lineAt q r)) (sym (cut-is r el) ∙ f .found b) in
+        (point-there, record { there = el; isCut = t .0; ends = t .1 })
 
     -- Where none was found there is none.
     pub finds-none : c .lines ≤ r → LooksCut q p (sought Cut.Nothing)

@@ -1,17 +1,16 @@
 -- The places of points, from the settled x and the heights.
 use Prim.Native.Nat.{ℕ, pred, _-_, _<_, _≤_}
 use mathlib.Core.Path.{_≡_, refl, sym, ap, _∙_}
-use mathlib.Core.Bool.{Bool, true, false, _&&_}
+use mathlib.Core.Bool.{Bool, true, false}
 use mathlib.Core.List.{List}
 use native.Mathlib.Omega.{arith}
 use lib.ListN.{getD, take}
-use lib.Dec.{leb}
 use lib.Seq.{getD-take}
-use borrow.Author.Tests.{leb-true}
 use Rattle.rules.specs.declared.Refusal.the-variants.{NoSuch}
 use Rattle.rules.specs.Basics.{between}
 use Rattle.rules.specs.Points.{Drawing as Plan, at}
 use Rattle.rules.specs.Lookups.{lookPoint}
+use Rattle.rules.specs.Bools.{in-range}
 use Rattle.store_links.specs.declared.Counts.{Counts}
 use Rattle.store_links.specs.Arrays.{Arrays}
 use Rattle.store_links.specs.Opening.{noPoints}
@@ -21,14 +20,6 @@ use Rattle.store_tables.specs.Tables.{arraysIn}
 use Rattle.drawing.specs.declared.PointSeen.the-variants as Point
 use Rattle.drawing.specs.declared.Placed.{Placed}
 use Rattle.drawing.specs.View.{Came, pointSeen}
-
-pub and-both : (a b : Bool) → (a && b) ≡ true → (a ≡ true) × (b ≡ true)
-and-both true b e = (refl, e)
-and-both false b e = let z : false ≡ true = e in (z, cc)
-
--- what the test of a point's number says
-pub range : {k : ℕ} (p : ℕ) → between 1 k p ≡ true → (1 ≤ p) × (p ≤ k)
-range {k} p e = let b = and-both (leb 1 p) (leb p k) e in (leb-true 1 p (b .0), leb-true p k (b .1))
 
 -- counts and table are a drawing that came so, and x is settled
 pub record PlacedIn (c : Counts) (t x : List ℕ) : Type 0 where
@@ -54,7 +45,7 @@ module _ {q : Plan} {a : Arrays} {c : Counts} {xs : List ℕ} (h : Holds q a c) 
     -- A number of point p, read from the longer list.
     there : (l : List ℕ) {l′ : List ℕ} → take (q .k) l ≡ l′ → getD l (p - 1) 0 ≡ getD l′ (pred p) 0
     there l e =
-        let r = range p is in
+        let r = in-range 1 _ p is in
         let i : p - 1 ≡ pred p = omega arith in
         let b : pred p < q .k = omega (arith, h .stores .k) in
         rw i (sym (getD-take (q .k) l (pred p) 0 b) ∙ ap (λ (m : List ℕ). getD m (pred p) 0) e)

@@ -14,7 +14,7 @@ use Rattle.rules.specs.Points.{Drawing}
 use Rattle.rules.specs.OrderFile.{readOrder, writeOrder}
 use Rattle.rules.specs.DrawingFile.{drawingBytes, writeDrawing, drawFile, readDrawing, orderBack}
 use Rattle.exchange.specs.Built.{Whole, Bytes}
-use Rattle.exchange.specs.Results.{bound, binds-to, tested, goes-to, same-value}
+use Rattle.rules.specs.Results.{bound, binds-to, tested, goes-to, same-value}
 use Rattle.exchange.specs.OrderWrite.{order-written}
 use Rattle.exchange.specs.OrderRead.{order-read}
 use Rattle.exchange.specs.OrderBytes.{order-bytes}

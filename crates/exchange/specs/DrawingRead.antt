@@ -14,15 +14,17 @@ use Rattle.rules.specs.Refusals.{good}
 use Rattle.rules.specs.Same.{compare-same}
 use Rattle.rules.specs.Points.{Drawing, m, W}
 use Rattle.rules.specs.Records.{written, readRecord, several, readEnd, fromStart, drawingHead, pointPlace, lineShape, endShape}
-use Rattle.rules.specs.RoundTrip.{length-bytes, record-back}
-use Rattle.rules.specs.DrawingFile.{highest, writePoints, drawingBytes, judgeLines, compareBytes, readDrawing}
+use Rattle.rules.specs.Lengths.{length-bytes}
+use Rattle.rules.specs.RoundTrip.{record-back}
+use Rattle.rules.specs.DrawingFile.{highest, writePoints, drawingBytes, judgeLines, compareBytes, judgeDrawing, readDrawing}
 use Rattle.promise.specs.Next.{next}
 use Rattle.promise.specs.Accepted.{accepted}
 use Rattle.promise.specs.Border.{m′}
 use Rattle.promise.specs.Bounds.{Standing, standing-start, standing-added}
 use Rattle.promise.specs.Within.{counted}
 use Rattle.exchange.specs.Built.{Built, begun, added, Whole}
-use Rattle.exchange.specs.Results.{never-good, bound, binds-to, tested, goes-to, followed, same-value}
+use Rattle.rules.specs.Bools.{both, in-range, range-in}
+use Rattle.rules.specs.Results.{never-good, bound, binds-to, tested, goes-to, followed, same-value}
 use Rattle.exchange.specs.Entries.{whole-so}
 use Rattle.exchange.specs.Groups.{writtenAll, AllFit, foundAll, several-back, length-all, linesWords, lines-are, lines-fit, length-lines, lines-read, grown, counts, judge-built, judged-built}
 
@@ -102,35 +104,29 @@ bytes-are d = ap₂ (λ (v w : List ℕ). written drawingHead (headWords d) ++ (
 -- files without a first differing byte are the same
 compare-equal : (i : ℕ) (cs bs : List ℕ) (u : Unit {0}) → compareBytes i cs bs ≡ good u → cs ≡ bs
 compare-equal i [] [] u h = refl
-compare-equal i [] (b ∷ bs) u h = absurd (never-good OtherDrawing i u h)
-compare-equal i (a ∷ cs) [] u h = absurd (never-good OtherDrawing i u h)
+compare-equal i [] (b ∷ bs) u h = absurd (never-good h)
+compare-equal i (a ∷ cs) [] u h = absurd (never-good h)
 compare-equal i (a ∷ cs) (b ∷ bs) u h =
     let t = tested (not (eqb a b)) OtherDrawing i (compareBytes (suc i) cs bs) u h in
     ap₂ (λ (v : ℕ) (l : List ℕ). v ∷ l) (eqb-true a b (not-false (eqb a b) (t .passed))) (compare-equal (suc i) cs bs u (t .last))
 
 -- n and s pass the test of the header
 range-good : (n s : ℕ) → 3 ≤ n → n ≤ 1024 → 1 ≤ s → s ≤ 8 → not (between 3 1024 n && between 1 8 s) ≡ false
-range-good n s a b c e = rw (le-leb 3 n a, le-leb n 1024 b, le-leb 1 s c, le-leb s 8 e)
-
--- what two tests together tell
-both : (a b : Bool) → (a && b) ≡ true → (a ≡ true) × (b ≡ true)
-both true b e = (refl, e)
-both false b e = absurd (false≢true e)
+range-good n s a b c e = rw (range-in 3 1024 n a b, range-in 1 8 s c e)
 
 -- and what passes it lies in range
 good-range : (n s : ℕ) → not (between 3 1024 n && between 1 8 s) ≡ false → (3 ≤ n) × (n ≤ 1024) × (1 ≤ s) × (s ≤ 8)
 good-range n s h =
     let t = both (between 3 1024 n) (between 1 8 s) (not-false (between 3 1024 n && between 1 8 s) h) in
-    let u = both (leb 3 n) (leb n 1024) (t .0) in
-    let v = both (leb 1 s) (leb s 8) (t .1) in
-    (leb-true 3 n (u .0), leb-true n 1024 (u .1), leb-true 1 s (v .0), leb-true s 8 (v .1))
+    let u = in-range 3 1024 n (t .0) in
+    let v = in-range 1 8 s (t .1) in
+    (u .0, u .1, v .0, v .1)
 
--- READING A DRAWING FILE: the drawing file of a finished drawing is read as that drawing.
-pub drawing-written : (d : Drawing) → Whole d → readDrawing (drawingBytes d) ≡ good d
-unfolding readDrawing
-drawing-written d w =
+-- the drawing file of a finished drawing is judged to be that drawing
+judge-written : (d : Drawing) → Whole d → judgeDrawing (drawingBytes d) ≡ good d
+unfolding judgeDrawing
+judge-written d w =
     let z = sizes d w in
-    let bs = drawingBytes d in
     let pw = pointsWords (d .s) (d .xs) (d .ys) in
     let lw = linesWords d (d .lines) in
     let end = written endShape [] in
@@ -151,17 +147,21 @@ drawing-written d w =
     (goes-to _ _ _ _ _ (range-good (d .n) (d .s) (w .reached .low) (w .reached .high) (w .reached .scale .0) (w .reached .scale .1))
     (binds-to _ _ _ _ points
     (binds-to _ _ _ _ lines
-    (binds-to _ _ _ _ judged
-    (rw (compare-same 0 bs))))))
+    judged)))
+
+-- READING A DRAWING FILE: the drawing file of a finished drawing is read as that drawing.
+pub drawing-written : (d : Drawing) → Whole d → readDrawing (drawingBytes d) ≡ good d
+unfolding readDrawing
+drawing-written d w = binds-to _ _ _ _ (judge-written d w) (rw (compare-same 0 (drawingBytes d)))
 
 -- what is known of a drawing is known of an equal one
 taken : (b : List ℕ) (e d : Drawing) → Whole e → b ≡ drawingBytes e → e ≡ d → Whole d × (b ≡ drawingBytes d)
 taken b e d w p q = subst (λ (v : Drawing). Whole v × (b ≡ drawingBytes v)) q (w, p)
 
--- WHAT IS READ: a file that is read as a drawing is the drawing file of that drawing, which is finished.
-pub drawing-read : (b : List ℕ) (d : Drawing) → readDrawing b ≡ good d → Whole d × (b ≡ drawingBytes d)
-unfolding readDrawing
-drawing-read b d h =
+-- a file that is judged to be a drawing has a finished one
+pub whole-judged : (b : List ℕ) (d : Drawing) → judgeDrawing b ≡ good d → Whole d
+unfolding judgeDrawing
+whole-judged b d h =
     let head = bound (readRecord drawingHead (fromStart b)) _ d h in
     let n = getD (head .value .words) 0 0 in
     let s = getD (head .value .words) 1 0 in
@@ -169,12 +169,18 @@ drawing-read b d h =
     let points = bound (several n pointPlace (head .value .next)) _ d (range .last) in
     let lines = bound (several (3 * n - 6) lineShape (points .value .next)) _ d (points .last) in
     let end = followed (readEnd (lines .value .next)) _ d (lines .last) in
-    let judged = bound (judgeLines n s (lines .value .next .offset) (lines .value .all)) _ d (end .last) in
+    let r = good-range n s (range .passed) in
+    let t = judged-built n s (lines .value .next .offset) (lines .value .all) d (end .last) in
+    whole-so (r .0, r .1) (r .2, r .3) (t .built) (t .many)
+
+-- WHAT IS READ: a file that is read as a drawing is the drawing file of that drawing, which is finished.
+pub drawing-read : (b : List ℕ) (d : Drawing) → readDrawing b ≡ good d → Whole d × (b ≡ drawingBytes d)
+unfolding readDrawing
+drawing-read b d h =
+    let judged = bound (judgeDrawing b) _ d h in
     let e = judged .value in
     let same = followed (compareBytes 0 b (drawingBytes e)) (good e) d (judged .last) in
-    let r = good-range n s (range .passed) in
-    let t = judged-built n s (lines .value .next .offset) (lines .value .all) e (judged .first) in
-    taken b e d (whole-so (r .0, r .1) (r .2, r .3) (t .built) (t .many))
+    taken b e d (whole-judged b e (judged .first))
     (compare-equal 0 b (drawingBytes e) (same .value) (same .first))
     (same-value e d (same .last))
 

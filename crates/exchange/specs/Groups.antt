@@ -26,7 +26,7 @@ use Rattle.rules.specs.DrawingFile.{lineWords, writeLines, laterIn, entryIn, gr
 use Rattle.promise.specs.Next.{next}
 use Rattle.promise.specs.Accepted.{accepted}
 use Rattle.exchange.specs.Built.{Built, begun, added}
-use Rattle.exchange.specs.Results.{same-value, bound, binds-to, tested, placed-good}
+use Rattle.rules.specs.Results.{same-value, bound, binds-to, tested, placed-good}
 
 -- ---- several records of one shape
 

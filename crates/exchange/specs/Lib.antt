@@ -1,6 +1,5 @@
 pub mod Built
 pub mod Numbers
-pub mod Results
 pub mod Entries
 pub mod Reaching
 pub mod Replay

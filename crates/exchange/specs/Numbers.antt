@@ -13,17 +13,13 @@ pub record Words (ws : List ℕ) : Type 0 where
 pub words-nil : Words []
 words-nil = record { low = λ i h. absurd (omega arith) }
 
+-- one number more in front
 pub words-cons : {w : ℕ} {ws : List ℕ} → w < 65536 → Words ws → Words (w ∷ ws)
 words-cons {w} {ws} h t = record { low = at }
   where
     at : (i : ℕ) → i < length (w ∷ ws) → getD (w ∷ ws) i 0 < 65536
     at zero k = h
     at (suc i) k = t .low i (omega arith)
-
--- every number of several lists
-abbrev pub AllWords : List (List ℕ) → Type 0
-AllWords [] = Unit {0}
-AllWords (l ∷ ls) = Words l × AllWords ls
 
 -- one byte more, at the front
 bytes-cons : {b : ℕ} {bs : List ℕ} → b < 256 → Bytes bs → Bytes (b ∷ bs)

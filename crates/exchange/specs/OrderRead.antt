@@ -17,18 +17,14 @@ use Rattle.rules.specs.Points.{Drawing}
 use Rattle.rules.specs.Adding.{addEntries, pointsOf}
 use Rattle.rules.specs.Records.{Cursor, Found, first, readRecord, readEnd, marked, fromStart, written, orderHead, scaleShape, pointEntries, endShape}
 use Rattle.rules.specs.OrderFile.{Scaled, givenScale, readScale, orderScale, startTest, startWith, entriesIn, readRest, readPoints, readOrder, writeOrder}
+use Rattle.rules.specs.Bools.{in-range}
 use Rattle.rules.specs.RoundTrip.{word-back}
 use Rattle.exchange.specs.Built.{Built, begun, added, Whole, Bytes}
-use Rattle.exchange.specs.Results.{same-value, bound, followed, tested, passes, placed-good}
+use Rattle.rules.specs.Results.{same-value, bound, followed, tested, test-false, placed-good}
 use Rattle.exchange.specs.Entries.{every, listed, whole-so}
 use Rattle.exchange.specs.Numbers.{Words}
 use Rattle.exchange.specs.RecordRead.{single, reread}
 use Rattle.exchange.specs.OrderWrite.{pointRecord, pointRecords, write-built}
-
--- both tests passed
-and-true : (a b : Bool) → (a && b) ≡ true → (a ≡ true) × (b ≡ true)
-and-true true b h = (refl, h)
-and-true false b h = absurd (true≢false (sym h))
 
 -- ---- one record
 
@@ -61,7 +57,7 @@ end-read : (at : Cursor) (u : Unit {0}) → Bytes (at .bytes) → readEnd at ≡
 end-read at u b h =
     let g = bound (readRecord endShape at) (λ f. refuseIf (ltb 0 (length (f .next .bytes))) ExtraBytes (f .next .offset)) u h in
     let t = reread endShape at (g .value) b (g .first) in
-    let none = ltb-false 0 (length (g .value .next .bytes)) (passes _ ExtraBytes _ u (g .last)) in
+    let none = ltb-false 0 (length (g .value .next .bytes)) (test-false _ ExtraBytes _ (g .last)) in
     t .bytes ∙ ap₂ (λ (ws l : List ℕ). written endShape ws ++ l) (empty (g .value .words) (omega (arith, t .fits))) (empty (g .value .next .bytes) none)
 
 -- ---- the points after point 3
@@ -162,10 +158,6 @@ points-read n s at e b h1 =
 
 -- ---- the header and the scale
 
--- a number within bounds
-pub between-is : (a b v : ℕ) → between a b v ≡ true → (a ≤ v) × (v ≤ b)
-between-is a b v h = let t = and-true (leb a v) (leb v b) h in (leb-true a v (t .0), leb-true v b (t .1))
-
 -- the scale at the cursor is written so
 record ScaleRead (at : Cursor) (c : Scaled) : Type 0 where
   low : 1 ≤ c .s
@@ -179,7 +171,7 @@ given-read at c b h =
     let f = bound (readRecord scaleShape at) _ c h in
     let t = reread scaleShape at (f .value) b (f .first) in
     let g = tested (not (between 2 8 (first (f .value)))) OutOfRange (f .value .place) (good (record { s = first (f .value); next = f .value .next })) c (f .last) in
-    let z = between-is 2 8 (first (f .value)) (not-false _ (g .passed)) in
+    let z = in-range 2 8 (first (f .value)) (not-false _ (g .passed)) in
     subst (ScaleRead at) (same-value _ c (g .last))
     (record {
       low = omega (arith, z .0);
@@ -219,5 +211,5 @@ order-read o d b h =
     let c = bound (readScale (f .value .next)) (λ c. readPoints n (c .s) (c .next)) d (g .last) in
     let z = scale-read (f .value .next) (c .value) (t .rest) (c .first) in
     let p = points-read n (c .value .s) (c .value .next) d (z .rest) (c .last) in
-    file-read n (c .value .s) (c .value .next) o d (between-is 3 1024 n (not-false _ (g .passed))) (z .low, z .high) p
+    file-read n (c .value .s) (c .value .next) o d (in-range 3 1024 n (not-false _ (g .passed))) (z .low, z .high) p
     (t .bytes ∙ ap₂ (λ (ws l : List ℕ). written orderHead ws ++ l) (single (f .value .words) (t .fits)) (z .bytes))

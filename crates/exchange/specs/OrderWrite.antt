@@ -20,7 +20,7 @@ use Rattle.rules.specs.Records.{readRecord, written, orderHead, scaleShape, poi
 use Rattle.rules.specs.OrderFile.{readScale, orderScale, orderPoints, entriesOf, readRest, readPoints, readOrder, writeOrder}
 use Rattle.rules.specs.RoundTrip.{record-back}
 use Rattle.exchange.specs.Built.{Built, Whole}
-use Rattle.exchange.specs.Results.{binds, goes}
+use Rattle.rules.specs.Results.{binds, goes}
 use Rattle.exchange.specs.Entries.{entriesAt, entries-words, every, listed}
 use Rattle.exchange.specs.Replay.{Fitting, entries-back, fitting-second, fitting-third, Replays, none, more, Replayed, replayed}
 

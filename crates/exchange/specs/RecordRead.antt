@@ -14,8 +14,8 @@ use Rattle.rules.specs.Refusals.{good}
 use Rattle.rules.specs.Records.{Size, plain, counted, Shape, Cursor, Found, bytesOf, sized, written, wordsIn, skip, wordsAt, first, restOf, readRecord}
 use Rattle.rules.specs.RoundTrip.{Fits}
 use Rattle.exchange.specs.Built.{Bytes}
-use Rattle.exchange.specs.Numbers.{Words}
-use Rattle.exchange.specs.Results.{same-value, bound, tested}
+use Rattle.exchange.specs.Numbers.{Words, words-cons}
+use Rattle.rules.specs.Results.{same-value, bound, tested}
 
 -- ---- bytes and numbers
 
@@ -26,14 +26,6 @@ bytes-tail h = record { byte = λ i b. h .byte (suc i) (omega arith) }
 -- bytes without the first c
 bytes-drop : {l : List ℕ} (c : ℕ) → Bytes l → Bytes (drop c l)
 bytes-drop {l} c h = record { byte = λ i b. rw (getD-drop c l i 0) (h .byte (c + i) (omega (arith, length-drop c l))) }
-
--- one number more in front
-words-more : (w : ℕ) (ws : List ℕ) → w < 65536 → Words ws → Words (w ∷ ws)
-words-more w ws h t = record { low = go }
-  where
-    go : (i : ℕ) → i < suc (length ws) → getD (w ∷ ws) i 0 < 65536
-    go zero b = h
-    go (suc i) b = t .low i (omega arith)
 
 -- c numbers, taken from the front of some bytes
 record Front (c : ℕ) (bs : List ℕ) : Type 0 where
@@ -53,7 +45,7 @@ front (suc c) (x ∷ y ∷ bs) h b =
     let high : (x * 256 + y) / 256 ≡ x = omega arith in
     let low : (x * 256 + y) % 256 ≡ y = omega arith in
     let two : 2 * suc c ≡ suc (suc (2 * c)) = omega arith in
-    record { split = rw two (cc (t .split)); count = ap suc (t .count); words = words-more (x * 256 + y) (wordsIn c bs) (omega arith) (t .words) }
+    record { split = rw two (cc (t .split)); count = ap suc (t .count); words = words-cons (omega arith) (t .words) }
 
 -- ---- a record
 

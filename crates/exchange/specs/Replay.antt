@@ -12,7 +12,7 @@ use Rattle.rules.specs.Points.{Drawing}
 use Rattle.rules.specs.Adding.{addEntries, pointsOf}
 use Rattle.rules.specs.OrderFile.{startWith, cutAt}
 use Rattle.rules.specs.RoundTrip.{entry-back}
-use Rattle.promise.specs.Lined.{length-points}
+use Rattle.rules.specs.Lengths.{length-points}
 use Rattle.promise.specs.Accepted.{accepted}
 use Rattle.promise.specs.Bounds.{Standing, standing-start, standing-added}
 use Rattle.exchange.specs.Built.{Built, begun, added}

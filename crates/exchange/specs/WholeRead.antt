@@ -15,9 +15,10 @@ use Rattle.rules.specs.Adding.{addEntries}
 use Rattle.rules.specs.Records.{Cursor, first, readRecord, readEnd, marked, fromStart, orderHead, scaleShape, pointEntries}
 use Rattle.rules.specs.OrderFile.{Scaled, givenScale, readScale, entriesIn, startWith, readRest, readPoints, readOrder}
 use Rattle.exchange.specs.Built.{Built, begun, added, Whole}
-use Rattle.exchange.specs.Results.{bound, followed, tested, same-value, placed-good}
+use Rattle.rules.specs.Bools.{in-range}
+use Rattle.rules.specs.Results.{bound, followed, tested, same-value, placed-good}
 use Rattle.exchange.specs.Entries.{whole-so}
-use Rattle.exchange.specs.OrderRead.{start-read, between-is}
+use Rattle.exchange.specs.OrderRead.{start-read}
 use Rattle.exchange.specs.Groups.{BuiltSo}
 
 -- c records more, from a built drawing on
@@ -55,7 +56,7 @@ given-range : (at : Cursor) (c : Scaled) → givenScale at ≡ good c → (1 ≤
 given-range at c h =
     let f = bound (readRecord scaleShape at) _ c h in
     let g = tested (not (between 2 8 (first (f .value)))) OutOfRange (f .value .place) (good (record { s = first (f .value); next = f .value .next })) c (f .last) in
-    let z = between-is 2 8 (first (f .value)) (not-false _ (g .passed)) in
+    let z = in-range 2 8 (first (f .value)) (not-false _ (g .passed)) in
     subst (λ (c : Scaled). (1 ≤ c .s) × (c .s ≤ 8)) (same-value _ c (g .last)) (omega (arith, z .0), z .1)
 
 scale-range : (at : Cursor) (c : Scaled) → readScale at ≡ good c → (1 ≤ c .s) × (c .s ≤ 8)
@@ -74,4 +75,4 @@ whole-read o d h =
     let g = tested (not (between 3 1024 n)) OutOfRange 0 _ d (f .last) in
     let c = bound (readScale (f .value .next)) (λ c. readPoints n (c .s) (c .next)) d (g .last) in
     let p = points-built n (c .value .s) (c .value .next) d (c .last) in
-    whole-so (between-is 3 1024 n (not-false _ (g .passed))) (scale-range (f .value .next) (c .value) (c .first)) (p .built) (p .many)
+    whole-so (in-range 3 1024 n (not-false _ (g .passed))) (scale-range (f .value .next) (c .value) (c .first)) (p .built) (p .many)

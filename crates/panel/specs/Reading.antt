@@ -10,7 +10,7 @@ use Rattle.rules.specs.OrderFile.{readOrder}
 use Rattle.rules.specs.DrawingFile.{drawingBytes, drawFile}
 use Rattle.store_links.specs.declared.Added.{Added}
 use Rattle.store_links.specs.Arrays.{Arrays}
-use Rattle.rules.specs.Answers.{accepted, refusing}
+use Rattle.rules.specs.Results.{accepted, refusing}
 use Rattle.store_laws.specs.Adding.{Holds}
 use Rattle.exchange.specs.Built.{Whole}
 use Rattle.exchange.specs.Demand2.{drawn-as}

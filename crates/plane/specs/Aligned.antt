@@ -6,7 +6,7 @@ use native.Mathlib.Omega.{arith}
 use borrow.Author.Tests.{ltb-false, le-ltb, not-true}
 use Rattle.rules.specs.declared.Place.{Place}
 use Rattle.rules.specs.Meeting.{crossPlus, crossMinus, leftOf, rightOf, inLine, oneLine}
-use Rattle.plane.specs.Bools.{both}
+use Rattle.rules.specs.Bools.{both}
 
 -- each end of a piece is in line with the other piece
 pub record Aligned (p q r s : Place) : Type 0 where

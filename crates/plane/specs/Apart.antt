@@ -7,7 +7,7 @@ use native.Mathlib.Nat.{mul-le-mul-left}
 use native.Mathlib.Decide.{decLe}
 use Rattle.rules.specs.declared.Place.{Place}
 use Rattle.rules.specs.Meeting.{meet}
-use Rattle.plane.specs.Bools.{is-false}
+use Rattle.rules.specs.Bools.{is-false}
 use Rattle.plane.specs.Common.{Common, meet-common, flip}
 
 -- The functional (au x + bu y) - (av x + bv y), by its parts that are added and taken away.

@@ -13,7 +13,7 @@ use Rattle.rules.specs.Basics.{if_then_else_}
 use Rattle.rules.specs.Meeting.{crossPlus, crossMinus, leftOf, rightOf, oneSide, oneLine, overlap, meet}
 use Rattle.plane.specs.Aligned.{Aligned, aligned-test, test-aligned}
 use Rattle.plane.specs.Ident.{dep-one, dep-x, dep-y}
-use Rattle.plane.specs.Bools.{both, neither, notboth}
+use Rattle.rules.specs.Bools.{both, neither, notboth}
 
 -- The point (A p + B q) / (A + B) of the piece pq is the point (C r + D s) / (C + D) of the piece rs.
 pub record Common (p q r s : Place) : Type 0 where

@@ -10,7 +10,7 @@ use borrow.Author.Tests.{ltb-true, le-leb}
 use Rattle.rules.specs.declared.Place.{Place}
 use Rattle.rules.specs.Basics.{if_then_else_}
 use Rattle.rules.specs.Meeting.{crossPlus, crossMinus, leftOf, rightOf, oneSide, oneLine, overlap, meet}
-use Rattle.plane.specs.Bools.{both, either, is-false}
+use Rattle.rules.specs.Bools.{both, either, is-false}
 use Rattle.plane.specs.Common.{Common, flip}
 
 -- crossPlus p q and crossMinus p q of weighted points depend on the weighted mean alone

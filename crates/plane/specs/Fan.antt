@@ -10,7 +10,7 @@ use Rattle.rules.specs.declared.Place.{Place}
 use Rattle.rules.specs.Meeting.{crossPlus, crossMinus, meet}
 use Rattle.plane.specs.Common.{meet-common}
 use Rattle.plane.specs.Exact.{balance, unbalanced}
-use Rattle.plane.specs.Bools.{is-false}
+use Rattle.rules.specs.Bools.{is-false}
 use Rattle.plane.specs.Apart.{OnlyAt}
 
 self : (e p : Place) → crossPlus e p e ≡ crossMinus e p e

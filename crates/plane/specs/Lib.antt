@@ -1,4 +1,3 @@
-pub mod Bools
 pub mod Aligned
 pub mod Ident
 pub mod Common

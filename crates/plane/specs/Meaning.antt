@@ -11,7 +11,7 @@ use borrow.Author.Tests.{eqb-true}
 use Rattle.rules.specs.declared.Place.{Place}
 use Rattle.rules.specs.Basics.{if_then_else_}
 use Rattle.rules.specs.Meeting.{crossPlus, crossMinus, oneLine, meet, samePlace, onlyIf, meetOnlyAt}
-use Rattle.plane.specs.Bools.{both}
+use Rattle.rules.specs.Bools.{both}
 use Rattle.plane.specs.Aligned.{Aligned, all-four, aligned-test, test-aligned}
 use Rattle.plane.specs.Common.{Common, p-inside, tr, untr, meet-common, flip, swap₂}
 use Rattle.plane.specs.Exact.{common-meet, balance}

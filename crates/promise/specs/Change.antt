@@ -11,7 +11,7 @@ use borrow.Author.Tests.{ltb-true, ltb-false, leb-true, le-leb}
 use Rattle.rules.specs.Basics.{if_then_else_}
 use Rattle.rules.specs.Points.{Drawing, xOf, yOf}
 use Rattle.rules.specs.Adding.{allButLast, inner, change, reaches, middleOf}
-use Rattle.plane.specs.Bools.{both}
+use Rattle.rules.specs.Bools.{both}
 
 -- ---- all but the first and the last
 

@@ -72,11 +72,15 @@ module _ (d : Drawing) (g : Rooted d) where
   w-placed i h = omega (arith, g .low i h)
 
   -- Boundary point i has index i, where its column is i: so no point stands on the boundary twice.
-  pub index-w : (i : ℕ) → i < m d → column d (suc (pred (w d i))) ≡ i → indexOf (w d i) (d .boundary) ≡ i
+  index-w : (i : ℕ) → i < m d → column d (suc (pred (w d i))) ≡ i → indexOf (w d i) (d .boundary) ≡ i
   index-w i h e =
       let n = w-suc i h in
       let at : indexOf (suc (pred (w d i))) (d .boundary) < m d = rw n (omega (arith, index-le (d .boundary) i h)) in
       ap (λ (q : ℕ). indexOf q (d .boundary)) (sym n) ∙ sym (column-on (pred (w d i)) at) ∙ e
+
+-- So boundary point i of a sound drawing has index i.
+pub index-is : {d : Drawing} → Sound d → (i : ℕ) → i < m d → indexOf (w d i) (d .boundary) ≡ i
+index-is {d} s i h = index-w d (s .rooted) i h (s .inv .core .points .on i h .1)
 
 -- ---- the covering
 

@@ -10,7 +10,7 @@ use Rattle.rules.specs.declared.Place.{Place}
 use Rattle.rules.specs.Points.{Drawing, w, m, lineAt}
 use Rattle.rules.specs.Ports.{freePiece}
 use Rattle.rules.specs.Demand.{endsAt, joins, slanted}
-use Rattle.plane.specs.Bools.{both}
+use Rattle.rules.specs.Bools.{both}
 use Rattle.net.specs.Side.{strict, Side, rt, lf, op, at}
 use Rattle.net.specs.Bend.{start, bend, end, spot}
 use Rattle.net.specs.Inv.{Link}

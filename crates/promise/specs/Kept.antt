@@ -19,7 +19,7 @@ use Rattle.promise.specs.Sound.{Sound, Sized, Rooted, Root}
 use Rattle.promise.specs.Next.{IsRun, next}
 use Rattle.promise.specs.Climb.{Took}
 use Rattle.promise.specs.Index.{index-at}
-use Rattle.promise.specs.Columns.{newOwners, k-next, owners-next, length-owned, column-on, w-suc, index-w, inside-true, true-inside, false-inside, took, climb-next, climb-new}
+use Rattle.promise.specs.Columns.{newOwners, k-next, owners-next, length-owned, column-on, w-suc, index-is, inside-true, true-inside, false-inside, took, climb-next, climb-new}
 use Rattle.promise.specs.Border.{Stands, old, put, stands-next}
 use Rattle.promise.specs.Moved.{length-spread}
 use Rattle.promise.specs.Counts.{length-grow, length-snoc, ports-next, hs-next, ys-next}
@@ -61,10 +61,6 @@ module _ (d : Drawing) (es : List Entry) (l r : ℕ) (s : Sound d) (q : IsRun d 
   unfolding next
   owner-next p = refl
 
-  -- Boundary point i has index i.
-  pub index-is : (i : ℕ) → i < m d → indexOf (w d i) (d .boundary) ≡ i
-  index-is i h = index-w d (s .rooted) i h (s .inv .core .points .on i h .1)
-
   -- A point inside the run is its column's boundary point.
   pub own-column : (p : ℕ) → inside l r (d .boundary) (suc p) ≡ true → p ≡ netOf d .w (netOf d .col p)
   own-column p e =
@@ -92,7 +88,7 @@ module _ (d : Drawing) (es : List Entry) (l r : ℕ) (s : Sound d) (q : IsRun d 
   own-new : (c : ℕ) → l < c → c < r → netOf (next d es l r) .own (netOf d .w c) ≡ netOf d .k
   own-new c h k =
       let b : c < m d = omega (arith, q .rm) in
-      let e : indexOf (suc (pred (w d c))) (d .boundary) ≡ c = ap (λ (p : ℕ). indexOf p (d .boundary)) (w-suc d (s .rooted) c b) ∙ index-is c b in
+      let e : indexOf (suc (pred (w d c))) (d .boundary) ≡ c = ap (λ (p : ℕ). indexOf p (d .boundary)) (w-suc d (s .rooted) c b) ∙ index-is s c b in
       own-taken (pred (w d c)) (true-inside l r (d .boundary) (suc (pred (w d c))) (omega arith) (omega arith))
 
   -- The owners of the new drawing.
@@ -129,7 +125,7 @@ module _ (d : Drawing) (es : List Entry) (l r : ℕ) (s : Sound d) (q : IsRun d 
   -- Nobody owns a point that stands on the new boundary.
   free-at : (p i v : ℕ) → v ≡ suc p → Stands (d .boundary) l r (suc (d .k)) i v → getD (newOwners d l r) p 0 ≡ 0
   free-at p i v e (old j jm o ej ev) =
-      let k : indexOf (suc p) (d .boundary) ≡ j = ap (λ (a : ℕ). indexOf a (d .boundary)) (sym e ∙ ev) ∙ index-is j jm in
+      let k : indexOf (suc p) (d .boundary) ≡ j = ap (λ (a : ℕ). indexOf a (d .boundary)) (sym e ∙ ev) ∙ index-is s j jm in
       taking .other p (false-inside l r (d .boundary) (suc p) (rw k o)) ∙ s .rooted .free p (omega arith)
   free-at p i v e (put ei ev) =
       let k : p ≡ d .k = omega arith in

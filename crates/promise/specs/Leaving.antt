@@ -15,7 +15,7 @@ use Rattle.rules.specs.Basics.{if_then_else_}
 use Rattle.rules.specs.Points.{Drawing, yOf, hOf, placeOf, lineAt}
 use Rattle.rules.specs.Meeting.{samePlace}
 use Rattle.rules.specs.Demand.{endsAt, towards}
-use Rattle.plane.specs.Bools.{both, either, is-false}
+use Rattle.rules.specs.Bools.{both, either, is-false}
 use Rattle.net.specs.Ports.{aside-of}
 use Rattle.net.specs.Bend.{turn, spot, bend}
 use Rattle.net.specs.Aims.{Leaves, turning, straight, Heads, Aimed, aim-start, aim-end}

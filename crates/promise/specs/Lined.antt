@@ -5,7 +5,7 @@ use mathlib.Core.Bool.{Bool, true, false}
 use mathlib.Core.List.{List, [], _∷_, _++_}
 use native.Mathlib.Nat.{le-of-suc-le-suc, not-suc-le-zero, add-zero, add-suc, suc-add, zero-add}
 use native.Mathlib.Omega.{arith}
-use lib.ListN.{length, getD, List·getD-append, length-append, length-map}
+use lib.ListN.{length, getD, List·getD-append, length-append}
 use lib.Seq.{getD-append-add}
 use lib.Dec.{ltb}
 use borrow.Author.Tests.{ltb-true, ltb-false, ne-eqb, eq-eqb}
@@ -14,6 +14,7 @@ use Rattle.rules.specs.declared.Entry.{Entry}
 use Rattle.rules.specs.declared.Bend.{Bend}
 use Rattle.rules.specs.declared.Bend.the-variants.{Left, Middle}
 use Rattle.rules.specs.Basics.{nth, grow}
+use Rattle.rules.specs.Lengths.{length-new}
 use Rattle.rules.specs.Adding.{newLines, newBend, middleOf, pointsOf}
 
 -- the line of an entry has the new point, the entry's point and the entry's bend
@@ -29,15 +30,6 @@ getD-newLines new f q [] i z h = absurd (not-suc-le-zero h)
 getD-newLines new f q (e ∷ es) zero z h = record { later = refl; earlier = refl; bend = rw (add-zero q) }
 getD-newLines new f q (e ∷ es) (suc i) z h = rw (add-suc, ← suc-add) (getD-newLines new f (suc q) es i z (le-of-suc-le-suc h))
 
--- there is a new line for each entry
-pub length-newLines : (new : ℕ) (f : ℕ → Bend) (q : ℕ) (es : List Entry) → length (newLines new f q es) ≡ length es
-length-newLines new f q [] = refl
-length-newLines new f q (e ∷ es) = ap suc (length-newLines new f (suc q) es)
-
--- each entry names a point
-pub length-points : (es : List Entry) → length (pointsOf es) ≡ length es
-length-points es = length-map es (λ e. e .point)
-
 -- line e of the old and the new lines is an old one, or that of entry i
 pub data Read (old : List Line) (new : ℕ) (f : ℕ → Bend) (es : List Entry) (z : Line) (e : ℕ) : Type 0 where
   was : e < length old → getD (old ++ newLines new f 0 es) e z ≡ getD old e z → Read old new f es z e
@@ -46,7 +38,7 @@ pub data Read (old : List Line) (new : ℕ) (f : ℕ → Bend) (es : List Entry)
 
 -- how many lines there are then
 pub length-lines : (old : List Line) (new : ℕ) (f : ℕ → Bend) (es : List Entry) → length (old ++ newLines new f 0 es) ≡ length old + length es
-length-lines old new f es = simp (length-append, length-newLines)
+length-lines old new f es = simp (length-append, length-new)
 
 -- every line is read so
 pub read : (old : List Line) (new : ℕ) (f : ℕ → Bend) (es : List Entry) (z : Line) (e : ℕ) → e < length (old ++ newLines new f 0 es) → Read old new f es z e

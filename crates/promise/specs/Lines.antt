@@ -25,7 +25,8 @@ use Rattle.promise.specs.Sound.{Sound, Ended}
 use Rattle.promise.specs.Next.{IsRun, next}
 use Rattle.promise.specs.Moved.{length-spread}
 use Rattle.promise.specs.Counts.{getD-snoc, snoc-new}
-use Rattle.promise.specs.Lined.{OfEntry, Read, was, entry, read, length-lines, length-points, bend-last, bend-inner, grow-at}
+use Rattle.rules.specs.Lengths.{length-points}
+use Rattle.promise.specs.Lined.{OfEntry, Read, was, entry, read, length-lines, bend-last, bend-inner, grow-at}
 use Rattle.promise.specs.Change.{getD-inner, length-inner, reached, unreached, change-start, change-end, first-before, first-at, middle-rising}
 
 -- the first inner point that its own port doesn't reach

@@ -16,7 +16,7 @@ use Rattle.rules.specs.Points.{Drawing, placeOf, lineAt}
 use Rattle.rules.specs.Ports.{Piece, pieces}
 use Rattle.rules.specs.Meeting.{meet, meetOnlyAt}
 use Rattle.rules.specs.Demand.{endsAt, sharedEnds, apartPieces, apart}
-use Rattle.plane.specs.Bools.{neither, either}
+use Rattle.rules.specs.Bools.{neither, either}
 use Rattle.plane.specs.Apart.{OnlyAt}
 use Rattle.plane.specs.Only.{only-test, only-swap, only-flip}
 use Rattle.net.specs.Bend.{Spot}

@@ -11,7 +11,7 @@ use Rattle.rules.specs.declared.Line.{Line}
 use Rattle.rules.specs.declared.Place.{Place}
 use Rattle.rules.specs.Points.{Drawing, placeOf, lineAt}
 use Rattle.rules.specs.Demand.{endsAt, portAt, towards, countsAt, Sector, leftSector, rightSector, middleSector, noSector, sector, sectorOf}
-use Rattle.plane.specs.Bools.{both}
+use Rattle.rules.specs.Bools.{both}
 use Rattle.net.specs.Side.{Side, rt, lf}
 use Rattle.net.specs.Net.{Net, side, middle}
 use Rattle.net.specs.Inv.{Inv}

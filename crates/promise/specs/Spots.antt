@@ -13,7 +13,7 @@ use Rattle.rules.specs.declared.Bend.the-variants.{Left, Right, Middle, Straigh
 use Rattle.rules.specs.Points.{Drawing, at, xOf, yOf, drOf, placeOf, lineAt}
 use Rattle.rules.specs.Ports.{bendOf, bendPlace, hasPort, portOwner, otherEnd, Piece, freePiece}
 use Rattle.rules.specs.Demand.{endsAt}
-use Rattle.plane.specs.Bools.{either}
+use Rattle.rules.specs.Bools.{either}
 use Rattle.net.specs.Net.{Net, Kind, side, middle, flat}
 use Rattle.net.specs.Inv.{Inv}
 use Rattle.net.specs.Bend.{Spot, start, bend, end, turn, spot}

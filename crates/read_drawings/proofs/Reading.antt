@@ -10,7 +10,7 @@ use Rattle.rules.specs.declared.Answer.the-variants.{Refused}
 use Rattle.rules.specs.Refusals.{Result, good, refused, _>>_, answer}
 use Rattle.rules.specs.Entries.{entryOf}
 use Rattle.rules.specs.Points.{Drawing}
-use Rattle.rules.specs.DrawingFile.{entryIn, judgeRest}
+use Rattle.rules.specs.DrawingFile.{entryIn, judgeRest, judgeDrawing}
 use Rattle.store_links.specs.declared.Added.{Added}
 use Rattle.store_links.specs.declared.Counts.{Counts}
 use Rattle.store_links.specs.Arrays.{Arrays}
@@ -18,12 +18,11 @@ use Rattle.store_links.specs.Opening.{openArrays, openCounts}
 use Rattle.promise.specs.Bounds.{standing-start}
 use Rattle.store_laws.specs.Adding.{Holds}
 use Rattle.store_laws.specs.Opened.{sized-open, stores-open}
-use Rattle.read_records.specs.Results.{stops}
+use Rattle.rules.specs.Results.{stops}
 use Rattle.read_groups.specs.Lines.{linesAt, lineAt}
 use Rattle.read_groups.specs.Groups.{numberFor}
 use Rattle.read_judging.specs.Files.{nIn, sIn, linesFrom, lineCount, linesEnd, fileTests}
 use Rattle.rules.specs.Records.{headSize, placeSize, lineSize}
-use Rattle.read_drawings.specs.Judged.{judgeDrawing}
 use Rattle.read_drawings.specs.Whole.{judged-so, firstLine, secondLine, thirdLine, begunIn, Passes, number-back}
 use Rattle.read_drawings.specs.Contracted.{restGroups, AllGrouped, LinesRead}
 

@@ -10,14 +10,13 @@ use Rattle.rules.specs.Points.{Drawing}
 use Rattle.rules.specs.Adding.{addEntries}
 use Rattle.rules.specs.Calls.{left}
 use Rattle.rules.specs.Records.{Found, lineSize}
-use Rattle.rules.specs.DrawingFile.{group, behind, groupPlace, judgeRest}
+use Rattle.rules.specs.DrawingFile.{group, behind, groupPlace, judgeRest, judgeDrawing}
 use Rattle.store_links.specs.declared.Added.{Added}
 use Rattle.store_links.specs.declared.Counts.{Counts}
 use Rattle.store_links.specs.Arrays.{Arrays}
 use Rattle.store_laws.specs.Adding.{Holds}
 use Rattle.store_adding.specs.Calls.{Ready}
 use Rattle.read_groups.specs.Lines.{linesAt}
-use Rattle.read_drawings.specs.Judged.{judgeDrawing}
 
 -- an answer, with a refusal at this place
 abbrev pub answerAt : ℕ → Answer → Answer

@@ -14,9 +14,10 @@ use Rattle.rules.specs.Basics.{elem}
 use Rattle.rules.specs.Refusals.{Result, good, refused, _>>_, refuseIf}
 use Rattle.rules.specs.Entries.{entryOf, pointLimit}
 use Rattle.rules.specs.Points.{Drawing}
-use Rattle.rules.specs.Adding.{pointsOf, entryTests, judge, addEntries, add}
+use Rattle.rules.specs.Adding.{pointsOf, entryTests, callTests, judge, addEntries, add}
 use Rattle.rules.specs.RoundTrip.{entry-back}
-use Rattle.read_records.specs.Results.{passed}
+use Rattle.rules.specs.Results.{tested}
+use Rattle.rules.specs.Lengths.{length-points}
 use Rattle.read_groups.specs.Groups.{numberFor}
 
 -- an entry, as its number is read back
@@ -50,35 +51,35 @@ module _ (d : Drawing) (few : d .k < pointLimit) where
   pass-alike : (i : ℕ) (es : List Entry) → entryTests d i (pointsOf es) ≡ good tt → map readBack es ≡ es
   pass-alike i [] h = refl
   pass-alike i (e ∷ es) h =
-      let six = passed (eqb (e .point) 0 || ltb (d .k) (e .point)) NotPlaced i _ h in
-      let seven = passed (not (elem (e .point) (d .boundary))) Covered i _ (six .1) in
-      go (alike e) (six .0) (pass-alike (suc i) es (seven .1))
+      let six = tested (eqb (e .point) 0 || ltb (d .k) (e .point)) NotPlaced i _ tt h in
+      let seven = tested (not (elem (e .point) (d .boundary))) Covered i _ tt (six .last) in
+      go (alike e) (six .passed) (pass-alike (suc i) es (seven .last))
     where
       go : Alike e → (eqb (e .point) 0 || ltb (d .k) (e .point)) ≡ false → map readBack es ≡ es → map readBack (e ∷ es) ≡ e ∷ es
       go (equal q) t r = ap₂ (λ (x : Entry) (l : List Entry). x ∷ l) q r
       go (absent q z) t r = absurd (let o : _≡_ {A = ℕ} 0 1 = cc in omega arith)
 
   -- a refusal is the same, whatever would follow
-  refused-alike : {A : Type 0} (a b : Result (Unit {0})) (r : Refusal) (p : ℕ) (x y : Result A) →
+  refused-alike : {A : Type 0} (a b : Result (Unit {0})) (r : Refusal) (p : ℕ) (u v : Result (Unit {0})) (x y : Result A) →
       let stopped : Result (Unit {0}) = refused r p in
-      ((a >> (b >> stopped)) >> x) ≡ ((a >> (b >> stopped)) >> y)
-  refused-alike (good u) (good v) r p x y = refl
-  refused-alike (good u) (refused f q) r p x y = refl
-  refused-alike (refused f q) b r p x y = refl
+      ((a >> (b >> stopped)) >> u >> x) ≡ ((a >> (b >> stopped)) >> v >> y)
+  refused-alike (good t) (good o) r p u v x y = refl
+  refused-alike (good t) (refused f q) r p u v x y = refl
+  refused-alike (refused f q) b r p u v x y = refl
 
-  length-points : (es : List Entry) → length (pointsOf (map readBack es)) ≡ length (pointsOf es)
-  length-points es = length-map (map readBack es) (λ e. e .point) ∙ length-map es readBack ∙ sym (length-map es (λ e. e .point))
+  as-many : (es : List Entry) → length (pointsOf (map readBack es)) ≡ length (pointsOf es)
+  as-many es = length-points (map readBack es) ∙ length-map es readBack ∙ sym (length-points es)
 
   read-twice : (es : List Entry) → map readBack es ≡ map entryOf (map numberFor es)
   read-twice [] = refl
   read-twice (e ∷ es) = ap (λ (l : List Entry). readBack e ∷ l) (read-twice es)
 
   by-tests : (es : List Entry) (t : Result (Unit {0})) → entryTests d 0 (pointsOf es) ≡ t → addEntries d es ≡ addEntries d (map readBack es)
-  unfolding addEntries judge
+  unfolding addEntries judge callTests
   by-tests es (good u) q = ap (addEntries d) (sym (pass-alike 0 es q))
   by-tests es (refused r p) q =
-      rw (length-points es, q, sym (tests-alike 0 es) ∙ q)
-      (refused-alike (refuseIf (leb (d .n) (d .k)) Finished 0) (refuseIf (ltb (length (pointsOf es)) 2) FewEntries 0) r p _ _)
+      rw (as-many es, q, sym (tests-alike 0 es) ∙ q)
+      (refused-alike (refuseIf (leb (d .n) (d .k)) Finished 0) (refuseIf (ltb (length (pointsOf es)) 2) FewEntries 0) r p _ _ _ _)
 
   -- a call with the numbers is judged as the entries are
   pub add-alike : (es : List Entry) → addEntries d es ≡ add d (map numberFor es)

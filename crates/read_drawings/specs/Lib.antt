@@ -1,4 +1,3 @@
-pub mod Judged
 pub mod Walked
 pub mod Entered
 pub mod Whole

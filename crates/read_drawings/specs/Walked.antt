@@ -10,13 +10,12 @@ use Rattle.rules.specs.Basics.{between}
 use Rattle.rules.specs.Refusals.{Result, good, refused, _>>_, _>>=_, refuseIf}
 use Rattle.rules.specs.Points.{Drawing}
 use Rattle.rules.specs.Records.{Cursor, Found, Several, several, readEnd, pointPlace, lineShape, drawingMark, placeMark, lineMark, headSize}
-use Rattle.rules.specs.DrawingFile.{judgeLines}
-use Rattle.read_records.specs.Results.{then-then, then-good, then-value}
+use Rattle.rules.specs.DrawingFile.{judgeLines, judgeDrawing}
+use Rattle.rules.specs.Results.{then-then, then-good, then-value}
 use Rattle.read_records.specs.Cursors.{cursor}
 use Rattle.read_records.specs.Marked.{recordTest, recordAt, recordTests, words-in, record-is, several-is, record-there}
 use Rattle.read_groups.specs.Lines.{linesAt}
 use Rattle.read_judging.specs.Files.{nIn, sIn, linesFrom, lineCount, linesEnd, headTests, bodyTests}
-use Rattle.read_drawings.specs.Judged.{judgeDrawing}
 
 module _ (f : List ℕ) where
   -- the records behind the header

@@ -13,13 +13,12 @@ use Rattle.rules.specs.Points.{Drawing, start}
 use Rattle.rules.specs.Records.{Found, lineSize}
 use Rattle.rules.specs.RoundTrip.{entry-back}
 use Rattle.rules.specs.OrderFile.{startWith}
-use Rattle.rules.specs.DrawingFile.{laterIn, entryIn, group, behind, judgeRest, judgeLines}
-use Rattle.read_records.specs.Results.{then-then, both}
+use Rattle.rules.specs.DrawingFile.{laterIn, entryIn, group, behind, judgeRest, judgeLines, judgeDrawing}
+use Rattle.rules.specs.Results.{never-good, both-pass, then-then}
 use Rattle.read_groups.specs.Lines.{linesAt, lineAt, earlierIn, joins, three-lines}
 use Rattle.read_groups.specs.Groups.{numberFor}
 use Rattle.read_judging.specs.Files.{nIn, sIn, linesFrom, lineCount, linesEnd, linesOf, headTests, bodyTests, fileTests, head-tells, body-tells}
 use Rattle.read_judging.specs.Starting.{joined, nextIs, none-next, startTests, not-2-1, two-of-2, not-3-1, not-3-2, three-of-3}
-use Rattle.read_drawings.specs.Judged.{judgeDrawing}
 use Rattle.read_drawings.specs.Walked.{judge-is}
 
 -- the drawing that points 1 to 3 begin, and the lines behind theirs
@@ -50,32 +49,28 @@ pub record Begins (x y z : Found) (fs : List Found) : Type 0 where
   pub third : joins z 3 2 ≡ true
   pub two : nextIs 3 fs ≡ false
 
--- no refusal is good
-none-good : (t : Result (Unit {0})) (p : ℕ) → t ≡ good tt → t ≡ refused OtherStart p → ⊥
-none-good t p h q = let o : _≡_ {A = ℕ} 0 1 = cc in omega arith
-
 start-tells : (end : ℕ) (x y z : Found) (fs : List Found) → startTests end (x ∷ y ∷ z ∷ fs) ≡ good tt → Begins x y z fs
 start-tells end x y z fs h = a (joins x 2 1) refl
   where
     e : (j : joins x 2 1 ≡ true) (o : nextIs 2 (y ∷ z ∷ fs) ≡ false) (k : joins y 3 1 ≡ true) (l : joins z 3 2 ≡ true) (t : Bool) → nextIs 3 fs ≡ t → Begins x y z fs
-    e j o k l true q = absurd (none-good _ _ h (three-of-3 end x y z fs j o k l q))
+    e j o k l true q = absurd (never-good (sym (three-of-3 end x y z fs j o k l q) ∙ h))
     e j o k l false q = record { first = j; one = o; second = k; third = l; two = q }
 
     d : (j : joins x 2 1 ≡ true) (o : nextIs 2 (y ∷ z ∷ fs) ≡ false) (k : joins y 3 1 ≡ true) (t : Bool) → joins z 3 2 ≡ t → Begins x y z fs
     d j o k true q = e j o k q (nextIs 3 fs) refl
-    d j o k false q = absurd (none-good _ _ h (not-3-2 end x y z fs j o k q))
+    d j o k false q = absurd (never-good (sym (not-3-2 end x y z fs j o k q) ∙ h))
 
     c : (j : joins x 2 1 ≡ true) (o : nextIs 2 (y ∷ z ∷ fs) ≡ false) (t : Bool) → joins y 3 1 ≡ t → Begins x y z fs
     c j o true q = d j o q (joins z 3 2) refl
-    c j o false q = absurd (none-good _ _ h (not-3-1 end x y (z ∷ fs) j o q))
+    c j o false q = absurd (never-good (sym (not-3-1 end x y (z ∷ fs) j o q) ∙ h))
 
     b : (j : joins x 2 1 ≡ true) (t : Bool) → nextIs 2 (y ∷ z ∷ fs) ≡ t → Begins x y z fs
-    b j true q = absurd (none-good _ _ h (two-of-2 end x (y ∷ z ∷ fs) j q))
+    b j true q = absurd (never-good (sym (two-of-2 end x (y ∷ z ∷ fs) j q) ∙ h))
     b j false q = c j q (joins y 3 1) refl
 
     a : (t : Bool) → joins x 2 1 ≡ t → Begins x y z fs
     a true q = b q (nextIs 2 (y ∷ z ∷ fs)) refl
-    a false q = absurd (none-good _ _ h (not-2-1 end x (y ∷ z ∷ fs) q))
+    a false q = absurd (never-good (sym (not-2-1 end x (y ∷ z ∷ fs) q) ∙ h))
 
 -- then the drawing is the one that they begin, and the lines behind theirs are left
 module _ {x y z : Found} {fs : List Found} (t : Begins x y z fs) where
@@ -133,8 +128,8 @@ file-passes f h =
     let y = secondLine f in
     let z = thirdLine f in
     let fs = linesAt f (lineCount n - 3) (linesFrom n + 3 * lineSize) in
-    let a = both (headTests f) _ h in
-    let b = both (bodyTests f n) _ (a .1) in
+    let a = both-pass (headTests f) _ h in
+    let b = both-pass (bodyTests f n) _ (a .1) in
     let t = head-tells f (a .0) in
     let all : linesOf f ≡ x ∷ y ∷ z ∷ fs = three-lines f (lineCount n) (linesFrom n) (omega (arith, t .1)) in
     let g = start-tells end x y z fs (sym (ap (startTests end) all) ∙ b .1) in

@@ -11,7 +11,7 @@ use Rattle.rules.specs.declared.Answer.the-variants.{Accepted, Refused}
 use Rattle.rules.specs.Basics.{between}
 use Rattle.rules.specs.Refusals.{Result, _>>_, answer}
 use Rattle.rules.specs.Records.{readEnd, drawingMark, placeMark, lineMark, headSize}
-use Rattle.read_records.specs.Results.{accepted, stops, goes-on}
+use Rattle.rules.specs.Results.{all-passed, stops, goes-on}
 use Rattle.read_records.specs.Cursors.{cursor}
 use Rattle.read_records.specs.Marked.{recordTests, records-there}
 use Rattle.read_groups.specs.Lines.{linesAt}
@@ -30,19 +30,19 @@ module _ (f : List ℕ) where
 
   module _ (h : answer head ≡ Accepted) where
     pub head-long : headSize ≤ length f
-    head-long = records-there f drawingMark 4 1 0 (omega arith) (accepted head h)
+    head-long = records-there f drawingMark 4 1 0 (omega arith) (all-passed head h)
 
     pub n-out : between 3 1024 (nIn f) ≡ false → Refused OutOfRange 0 ≡ answer (headTests f)
     unfolding headTests
-    n-out q = rw (accepted head h, q)
+    n-out q = rw (all-passed head h, q)
 
     pub s-out : between 3 1024 (nIn f) ≡ true → between 1 8 (sIn f) ≡ false → Refused OutOfRange 0 ≡ answer (headTests f)
     unfolding headTests
-    s-out q t = rw (accepted head h, q, t)
+    s-out q t = rw (all-passed head h, q, t)
 
     pub head-good : between 3 1024 (nIn f) ≡ true → between 1 8 (sIn f) ≡ true → Accepted ≡ answer (headTests f)
     unfolding headTests
-    head-good q t = rw (accepted head h, q, t)
+    head-good q t = rw (all-passed head h, q, t)
 
   -- ---- the points, the lines and the end
 
@@ -59,7 +59,7 @@ module _ (f : List ℕ) where
 
     module _ (h : answer points ≡ Accepted) where
       pub points-there : linesFrom n ≤ length f
-      points-there = records-there f placeMark 2 n headSize start (accepted points h)
+      points-there = records-there f placeMark 2 n headSize start (all-passed points h)
 
       pub lines-stop : (r : Refusal) (p : ℕ) → answer lines ≡ Refused r p → answer lines ≡ answer (bodyTests f n)
       unfolding bodyTests
@@ -67,7 +67,7 @@ module _ (f : List ℕ) where
 
       module _ (g : answer lines ≡ Accepted) where
         pub lines-there : linesEnd n ≤ length f
-        lines-there = records-there f lineMark 5 (lineCount n) (linesFrom n) points-there (accepted lines g)
+        lines-there = records-there f lineMark 5 (lineCount n) (linesFrom n) points-there (all-passed lines g)
 
         pub end-says : answer (readEnd (cursor f (linesEnd n))) ≡ answer (bodyTests f n)
         unfolding bodyTests

@@ -1,19 +1,18 @@
 -- A drawing file by its offsets: the header, n points of 6 bytes, 3n - 6 lines of 12 bytes, the end; and the tests on these before the groups of points 4 to n.
 use Prim.Native.Nat.{ℕ, _+_, _-_, _*_, _≤_}
-use mathlib.Core.Path.{_≡_, refl}
-use mathlib.Core.Bool.{Bool, true, false, not, _&&_}
+use mathlib.Core.Path.{_≡_}
+use mathlib.Core.Bool.{not, _&&_}
 use mathlib.Core.List.{List}
 use native.Mathlib.Omega.{arith}
 use lib.ListN.{length}
 use borrow.Author.Tests.{not-false}
-use Rattle.rules.specs.declared.Refusal.{Refusal}
 use Rattle.rules.specs.declared.Refusal.the-variants.{OutOfRange}
 use Rattle.rules.specs.Basics.{between}
 use Rattle.rules.specs.Refusals.{Result, good, _>>_, refuseIf}
 use Rattle.rules.specs.Records.{Found, readEnd, drawingMark, placeMark, lineMark, headSize, placeSize, lineSize}
 use Rattle.words.specs.Bytes.{wordAt}
-use Rattle.read_records.specs.Results.{both}
-use Rattle.read_records.specs.Ranges.{both-true, in-range}
+use Rattle.rules.specs.Bools.{both, in-range}
+use Rattle.rules.specs.Results.{both-pass, test-false}
 use Rattle.read_records.specs.Cursors.{cursor}
 use Rattle.read_records.specs.Marked.{recordTests, records-there}
 use Rattle.read_groups.specs.Lines.{linesAt}
@@ -62,22 +61,17 @@ fileTests f = do
 
 -- ---- what tests that pass tell
 
--- a test at the end
-unrefused : (t : Bool) (r : Refusal) (p : ℕ) → refuseIf t r p ≡ good tt → t ≡ false
-unrefused true r p h = cc
-unrefused false r p h = refl
-
 pub head-tells : (f : List ℕ) → headTests f ≡ good tt → (headSize ≤ length f) × (3 ≤ nIn f) × (nIn f ≤ 1024)
 unfolding headTests
 head-tells f h =
-    let t = both (recordTests f drawingMark 4 1 0) _ h in
-    let r = both-true (between 3 1024 (nIn f)) (between 1 8 (sIn f)) (not-false _ (unrefused _ OutOfRange 0 (t .1))) in
+    let t = both-pass (recordTests f drawingMark 4 1 0) _ h in
+    let r = both (between 3 1024 (nIn f)) (between 1 8 (sIn f)) (not-false _ (test-false _ OutOfRange 0 (t .1))) in
     let n = in-range 3 1024 (nIn f) (r .0) in
     (records-there f drawingMark 4 1 0 (omega arith) (t .0), n .0, n .1)
 
 pub body-tells : (f : List ℕ) (n : ℕ) → headSize ≤ length f → bodyTests f n ≡ good tt → linesEnd n ≤ length f
 unfolding bodyTests
 body-tells f n l h =
-    let p = both (recordTests f placeMark 2 n headSize) _ h in
-    let q = both (recordTests f lineMark 5 (lineCount n) (linesFrom n)) _ (p .1) in
+    let p = both-pass (recordTests f placeMark 2 n headSize) _ h in
+    let q = both-pass (recordTests f lineMark 5 (lineCount n) (linesFrom n)) _ (p .1) in
     records-there f lineMark 5 (lineCount n) (linesFrom n) (records-there f placeMark 2 n headSize l (p .0)) (q .0)

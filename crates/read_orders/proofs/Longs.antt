@@ -11,12 +11,12 @@ use Rattle.rules.specs.declared.Refusal.{Refusal}
 use Rattle.rules.specs.declared.Refusal.the-variants.{Finished, NoRun}
 use Rattle.rules.specs.Refusals.{good, refused, _>>_, refuseIf}
 use Rattle.rules.specs.Entries.{entryOf}
+use Rattle.rules.specs.Lengths.{length-call}
 use Rattle.rules.specs.Points.{Drawing}
-use Rattle.rules.specs.Adding.{pointsOf, lOf, runTests, judge, addEntries, add}
+use Rattle.rules.specs.Adding.{pointsOf, lOf, runTests, callTests, judge, addEntries, add}
 use Rattle.store_links.specs.declared.Counts.{Counts}
 use Rattle.store_links.specs.Arrays.{Arrays}
 use Rattle.store_links.specs.Judging.{entriesPass}
-use Rattle.store_laws.specs.Reading.{points-length}
 use Rattle.store_laws.specs.Tests.{entries-same}
 use Rattle.store_laws.specs.Adding.{Holds}
 use Rattle.read_orders.specs.Points.{RefusedBy}
@@ -34,7 +34,7 @@ run-long i (q ∷ ws) (p ∷ run) h = go (eqb p q) (run-long (suc i) ws run (ome
 module _ {d : Drawing} {a : Arrays} {c : Counts} (h : Holds d a c) (es : List ℕ) (many : 1024 < length es) where
   -- 21
   pub long-finished : c .n ≤ c .k → RefusedBy (add d es) Finished
-  unfolding addEntries judge
+  unfolding addEntries judge callTests
   long-finished l = record { place = 0; is = rw (le-leb (d .n) (d .k) (omega (arith, h .stores .n, h .stores .k))) }
 
   module _ (room : c .k < c .n) where
@@ -43,30 +43,30 @@ module _ {d : Drawing} {a : Arrays} {c : Counts} (h : Holds d a c) (es : List �
 
     -- 6 or 7
     pub long-entry : (r : Refusal) (p : ℕ) → entriesPass (a .owner) (c .k) 0 es ≡ refused r p → RefusedBy (add d es) r
-    unfolding addEntries judge
+    unfolding addEntries judge callTests
     long-entry r p q =
         record {
           place = p;
           is =
               rw (
                 lt-leb (d .n) (d .k) (omega (arith, h .stores .n, h .stores .k)),
-                le-ltb (length run) 2 (omega (arith, points-length es)),
+                le-ltb (length run) 2 (omega (arith, length-call es)),
                 sym (entries-same (h .stores) (h .standing .sound) 0 es) ∙ q,
               );
         }
 
     -- 8
     pub long-run : entriesPass (a .owner) (c .k) 0 es ≡ good tt → RefusedBy (add d es) NoRun
-    unfolding addEntries judge
+    unfolding addEntries judge callTests
     long-run q =
         let l = drop (lOf d run) (d .boundary) in
-        let b = run-long 0 l run (omega (arith, points-length es, length-drop (lOf d run) (d .boundary), h .standing .ranged .border)) in
+        let b = run-long 0 l run (omega (arith, length-call es, length-drop (lOf d run) (d .boundary), h .standing .ranged .border)) in
         record {
           place = b .place;
           is =
               rw (
                 lt-leb (d .n) (d .k) (omega (arith, h .stores .n, h .stores .k)),
-                le-ltb (length run) 2 (omega (arith, points-length es)),
+                le-ltb (length run) 2 (omega (arith, length-call es)),
                 sym (entries-same (h .stores) (h .standing .sound) 0 es) ∙ q,
                 b .is,
               );

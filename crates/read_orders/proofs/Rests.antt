@@ -20,7 +20,7 @@ use Rattle.store_adding.specs.Calls.{Answered}
 use Rattle.read_records.specs.Cursors.{cursor}
 use Rattle.read_records.specs.Reading.{Got}
 use Rattle.read_orders.specs.Points.{RefusedBy, Went}
-use Rattle.rules.specs.Answers.{refusing}
+use Rattle.rules.specs.Results.{refusing}
 
 -- the record is refused
 pub point-bad : (f : List ℕ) (at : ℕ) (r : Refusal) (p : ℕ) → readRecord pointEntries (cursor f at) ≡ refused r p → (d : Drawing) (k : ℕ) → readRest (suc k) d (cursor f at) ≡ refused r p

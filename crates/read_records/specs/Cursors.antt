@@ -15,8 +15,7 @@ use Rattle.rules.specs.declared.Answer.the-variants.{Accepted, Refused}
 use Rattle.rules.specs.Refusals.{Result, good, refused, answer, _>>_, refuseIf}
 use Rattle.rules.specs.Records.{Shape, plain, Cursor, Found, wordsIn, wordsAt, restOf, readRecord, readEnd, pointEntries, endShape, entriesMark, endMark}
 use Rattle.words.specs.Bytes.{wordAt}
-use Rattle.rules.specs.Answers.{refusing}
-use Rattle.read_records.specs.Results.{accepted}
+use Rattle.rules.specs.Results.{refusing, all-passed}
 
 -- the file f from offset `at` on
 abbrev pub cursor : List ℕ → ℕ → Cursor
@@ -115,7 +114,7 @@ module _ (r : Shape) (f : List ℕ) (at : ℕ) where
 
   -- the mark is there
   pub marked-by : answer (markAt (r .mark) f at) ≡ Accepted → readRecord r (cursor f at) ≡ restOf at (r .size) (cursor f (at + 2))
-  marked-by q = rw (record-by r f at, accepted (markAt (r .mark) f at) q)
+  marked-by q = rw (record-by r f at, all-passed (markAt (r .mark) f at) q)
 
 -- two bytes are there, where a mark was found
 pub mark-there : (mark : ℕ) (f : List ℕ) (at : ℕ) → answer (markAt mark f at) ≡ Accepted → at + 2 ≤ length f

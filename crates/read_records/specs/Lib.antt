@@ -1,5 +1,3 @@
-pub mod Results
-pub mod Ranges
 pub mod Cursors
 pub mod Reading
 pub mod Marked

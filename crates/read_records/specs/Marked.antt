@@ -15,8 +15,7 @@ use Rattle.rules.specs.declared.Answer.the-variants.{Accepted, Refused}
 use Rattle.rules.specs.Refusals.{Result, good, refused, answer, _>>_, _>>=_, refuseIf}
 use Rattle.rules.specs.Records.{Found, Several, wordsIn, wordsAt, readRecord, several, bytesIn}
 use Rattle.words.specs.Bytes.{wordAt}
-use Rattle.rules.specs.Answers.{refusing}
-use Rattle.read_records.specs.Results.{accepted, answer-then, then-then, then-value, both}
+use Rattle.rules.specs.Results.{refusing, all-passed, answer-then, then-then, then-value, both-pass}
 use Rattle.read_records.specs.Cursors.{cursor, markAt, plainShape, record-by, mark-there}
 
 -- "1 if fewer than two bytes are left, 2, then 1 for the rest"
@@ -94,11 +93,11 @@ module _ (f : List ℕ) where
     module _ (h : answer (markAt mark f at) ≡ Accepted) where
       pub cut-off : length f < at + bytesIn size → recordTest f mark size at ≡ refused FileEnds at
       unfolding recordTest
-      cut-off l = rw (accepted (markAt mark f at) h, lt-ltb (length f) (at + bytesIn size) l)
+      cut-off l = rw (all-passed (markAt mark f at) h, lt-ltb (length f) (at + bytesIn size) l)
 
       pub stands : at + bytesIn size ≤ length f → recordTest f mark size at ≡ good tt
       unfolding recordTest
-      stands l = rw (accepted (markAt mark f at) h, le-ltb (length f) (at + bytesIn size) l)
+      stands l = rw (all-passed (markAt mark f at) h, le-ltb (length f) (at + bytesIn size) l)
 
   -- ---- c records in succession
 
@@ -131,7 +130,7 @@ unfolding recordTest
 record-there f mark size at h = go (ltb (length f) (at + bytesIn size)) refl
   where
     last : refuseIf (ltb (length f) (at + bytesIn size)) FileEnds at ≡ good tt
-    last = both (markAt mark f at) _ h .1
+    last = both-pass (markAt mark f at) _ h .1
 
     go : (t : Bool) → ltb (length f) (at + bytesIn size) ≡ t → at + bytesIn size ≤ length f
     go true q = let z : _≡_ {A = ℕ} 0 1 = cc (ap (λ (b : Bool). refuseIf b FileEnds at) q, last) in absurd (omega arith)
@@ -142,6 +141,6 @@ pub records-there : (f : List ℕ) (mark size c at : ℕ) → at ≤ length f �
 unfolding recordTests
 records-there f mark size zero at l h = omega arith
 records-there f mark size (suc c) at l h =
-    let t = both (recordTest f mark size at) _ h in
+    let t = both-pass (recordTest f mark size at) _ h in
     let r = records-there f mark size c (at + bytesIn size) (record-there f mark size at (t .0)) (t .1) in
     omega arith

@@ -13,7 +13,7 @@ use Rattle.rules.specs.Refusals.{good, refused, _>>=_}
 use Rattle.rules.specs.Records.{readRecord, orderHead, scaleShape, scaleMark}
 use Rattle.rules.specs.OrderFile.{givenScale, readScale, readPoints, readOrder}
 use Rattle.words.specs.Bytes.{wordAt}
-use Rattle.read_records.specs.Ranges.{in-range}
+use Rattle.rules.specs.Bools.{in-range}
 use Rattle.read_records.specs.Cursors.{cursor, found, none-left, one-left}
 use Rattle.read_start.specs.declared.Head.{Head}
 use Rattle.read_start.specs.declared.Head.the-variants as head

@@ -17,6 +17,7 @@ use Rattle.rules.specs.Adding.{pointsOf}
 use Rattle.rules.specs.Records.{wordsIn, readRecord, pointEntries}
 use Rattle.rules.specs.OrderFile.{readPoints}
 use Rattle.store_links.specs.Judging.{pointIn}
+use Rattle.rules.specs.Lengths.{length-call}
 use Rattle.words.specs.Bytes.{wordAt}
 use Rattle.read_records.specs.Cursors.{cursor, one-left, two-left, words-count}
 use Rattle.read_records.specs.Reading.{Got}
@@ -25,12 +26,8 @@ use Rattle.read_start.specs.declared.Start.the-variants as start
 use Rattle.read_start.specs.Starting.{thirdFrom, secondFrom, pointsFrom, Begun, StartRead}
 
 -- entries of another count are not the same
-count-points : (ws : List ℕ) → length (pointsOf (map entryOf ws)) ≡ length ws
-count-points [] = refl
-count-points (w ∷ ws) = ap suc (count-points ws)
-
 other-count : (ws wanted : List ℕ) → (length ws ≡ length wanted → ⊥) → same (pointsOf (map entryOf ws)) wanted ≡ false
-other-count ws wanted n = other-length (pointsOf (map entryOf ws)) wanted (λ q. n (sym (count-points ws) ∙ q))
+other-count ws wanted n = other-length (pointsOf (map entryOf ws)) wanted (λ q. n (sym (length-call ws) ∙ q))
 
 -- the record is refused
 module _ (f : List ℕ) (at : ℕ) (r : Refusal) (p : ℕ) (h : readRecord pointEntries (cursor f at) ≡ refused r p) (n s : ℕ) where

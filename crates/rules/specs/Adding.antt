@@ -142,13 +142,19 @@ wholeTest d run = refuseIf (eqb (d .k + 1) (d .n) && not (eqb (length run) (m d)
 abbrev pub reachTest : ℕ → ℕ → Drawing → List ℕ → Result (Unit {0})
 reachTest l r c run = refuseIf (not (allReach (newX l r c) (newY l r c) (rowHeight run) c 1 (inner run))) NoReach 0
 
-unfoldable pub judge : Drawing → List ℕ → Result (Unit {0})
-judge d run = do
+-- those that need no new place
+unfoldable pub callTests : Drawing → List ℕ → Result (Unit {0})
+callTests d run = do
   refuseIf (leb (d .n) (d .k)) Finished 0
   refuseIf (ltb (length run) 2) FewEntries 0
   entryTests d 0 run
   runTests 0 (drop (lOf d run) (d .boundary)) run
   wholeTest d run
+
+-- all of them, in this order
+unfoldable pub judge : Drawing → List ℕ → Result (Unit {0})
+judge d run = do
+  callTests d run
   reachTest (lOf d run) (rOf d run) (spread (lOf d run) (rOf d run) d) run
 
 -- ---- "Then the covered points leave it, the new point owns them and stands between wl and wr. Its lines are added last, in entry order. k grows by 1."

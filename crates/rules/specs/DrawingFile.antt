@@ -109,9 +109,9 @@ compareBytes i (a ∷ l) (b ∷ bs) = do
   refuseIf (not (eqb a b)) OtherDrawing i
   compareBytes (suc i) l bs
 
--- the drawing of a drawing file: "1, 2, 3 on the header (s from 1 to 8), 1 and 2 on all other records, 10, then 4 to 9, then 11"
-unfoldable pub readDrawing : List ℕ → Result Drawing
-readDrawing bytes = do
+-- "1, 2, 3 on the header (s from 1 to 8), 1 and 2 on all other records, 10, then 4 to 9"
+unfoldable pub judgeDrawing : List ℕ → Result Drawing
+judgeDrawing bytes = do
   f ← readRecord drawingHead (fromStart bytes)
   let n = getD (f .words) 0 0
   let s = getD (f .words) 1 0
@@ -119,7 +119,12 @@ readDrawing bytes = do
   ps ← several n pointPlace (f .next)
   ls ← several (3 * n - 6) lineShape (ps .next)
   readEnd (ls .next)
-  d ← judgeLines n s (ls .next .offset) (ls .all)
+  judgeLines n s (ls .next .offset) (ls .all)
+
+-- the drawing of a drawing file: these tests, "then 11"
+unfoldable pub readDrawing : List ℕ → Result Drawing
+readDrawing bytes = do
+  d ← judgeDrawing bytes
   compareBytes 0 bytes (drawingBytes d)
   good d
 

@@ -16,6 +16,8 @@ pub mod Lookups
 pub mod Moves
 pub mod Ten
 pub mod Cases
-pub mod Answers
+pub mod Bools
+pub mod Results
+pub mod Lengths
 pub mod Same
 pub mod RoundTrip

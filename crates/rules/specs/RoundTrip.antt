@@ -13,6 +13,7 @@ use Rattle.rules.specs.declared.Refusal.the-variants.{WrongMark}
 use Rattle.rules.specs.Basics.{if_then_else_}
 use Rattle.rules.specs.Refusals.{Result, good, _>>=_, _>>_, refuseIf}
 use Rattle.rules.specs.Entries.{entryOf, wordOf, pointLimit}
+use Rattle.rules.specs.Lengths.{length-bytes}
 use Rattle.rules.specs.Records.{Size, plain, counted, Shape, Found, bytesOf, sized, written, wordsIn, wordsAt, first, restOf, readRecord}
 
 -- an entry, written and read
@@ -36,11 +37,6 @@ word-back w h = go (leb pointLimit w) refl
     go : (c : Bool) → leb pointLimit w ≡ c → w % pointLimit + (if not c then 0 else pointLimit) ≡ w
     go true q = let k = leb-true pointLimit w q in omega arith
     go false q = let k = leb-false pointLimit w q in omega arith
-
--- numbers have two bytes each
-pub length-bytes : (ws : List ℕ) → length (bytesOf ws) ≡ 2 * length ws
-length-bytes [] = refl
-length-bytes (w ∷ ws) = omega (arith, length-bytes ws)
 
 -- the bytes of numbers, with anything behind them, give the numbers back
 pub words-back : (ws rest : List ℕ) → wordsIn (length ws) (bytesOf ws ++ rest) ≡ ws

@@ -12,10 +12,10 @@ use Rattle.rules.specs.Basics.{keep}
 use Rattle.rules.specs.Refusals.{good, refused, Told, accepted, refusedWith, told}
 use Rattle.rules.specs.Points.{Drawing, at, placeOf, opening, opened}
 use Rattle.rules.specs.Ports.{bendPlace}
-use Rattle.rules.specs.Adding.{judge, placedNew, addEntries}
+use Rattle.rules.specs.Adding.{callTests, judge, placedNew, addEntries}
 use Rattle.rules.specs.Calls.{drawn, said}
 use Rattle.rules.specs.OrderFile.{readRest, readPoints, readOrder, writeOrder}
-use Rattle.rules.specs.DrawingFile.{drawingBytes, judgeRest, judgeLines, readDrawing, drawFile, orderBack}
+use Rattle.rules.specs.DrawingFile.{drawingBytes, judgeRest, judgeLines, judgeDrawing, readDrawing, drawFile, orderBack}
 use Rattle.rules.specs.Output.{fitted, filled, refusalLine}
 use Rattle.rules.specs.Lookups.{lookPoint}
 use Rattle.rules.specs.Moves.{Tool, moveAt, cut}
@@ -55,7 +55,7 @@ pub ten :
     (opened 1024 ≡ good (opening 1024)) × (opened 2 ≡ refused OutOfRange 0) × (opened 1025 ≡ refused OutOfRange 0) ×
     -- K10 adding to a finished drawing: 21
     (toldOf 4 ((1 ∷ 3 ∷ 2 ∷ []) ∷ (1 ∷ 4 ∷ 2 ∷ []) ∷ []) ≡ accepted ∷ refusedWith 21 0 ∷ [])
-unfolding judge placedNew addEntries
+unfolding callTests judge placedNew addEntries
 ten = (refl, refl, refl, refl, refl, refl, refl, refl, refl, refl, refl, refl, refl, refl, refl, refl, refl, refl, refl, refl, refl, refl, refl, refl, refl, refl, refl, refl, refl, refl, refl)
 
 -- "Whole case, order file", "Drawing"
@@ -66,7 +66,7 @@ abbrev pub wholeDrawing : List ℕ
 wholeDrawing = 0x44 ∷ 0x48 ∷ 0x00 ∷ 0x03 ∷ 0x00 ∷ 0x01 ∷ 0x00 ∷ 0x06 ∷ 0x00 ∷ 0x02 ∷ 0x50 ∷ 0x4F ∷ 0x00 ∷ 0x00 ∷ 0x00 ∷ 0x00 ∷ 0x50 ∷ 0x4F ∷ 0x00 ∷ 0x06 ∷ 0x00 ∷ 0x00 ∷ 0x50 ∷ 0x4F ∷ 0x00 ∷ 0x03 ∷ 0x00 ∷ 0x02 ∷ 0x4C ∷ 0x4E ∷ 0x00 ∷ 0x02 ∷ 0x00 ∷ 0x01 ∷ 0x00 ∷ 0x00 ∷ 0x00 ∷ 0x00 ∷ 0x00 ∷ 0x01 ∷ 0x4C ∷ 0x4E ∷ 0x00 ∷ 0x03 ∷ 0x00 ∷ 0x01 ∷ 0x00 ∷ 0x02 ∷ 0x00 ∷ 0x01 ∷ 0x00 ∷ 0x01 ∷ 0x4C ∷ 0x4E ∷ 0x00 ∷ 0x03 ∷ 0x00 ∷ 0x02 ∷ 0x00 ∷ 0x04 ∷ 0x00 ∷ 0x01 ∷ 0x00 ∷ 0x01 ∷ 0x45 ∷ 0x4E ∷ []
 
 pub whole : (drawFile wholeOrder ≡ good wholeDrawing) × (orderBack wholeDrawing ≡ good wholeOrder)
-unfolding judge placedNew addEntries readRest readPoints readOrder writeOrder drawingBytes judgeRest judgeLines readDrawing
+unfolding callTests judge placedNew addEntries readRest readPoints readOrder writeOrder drawingBytes judgeRest judgeLines judgeDrawing readDrawing
 whole = (refl, refl)
 
 abbrev tool : Tool
@@ -80,5 +80,5 @@ pub others :
     (lookPoint K4 5 ≡ good (at 6 5)) × (lookPoint K4 6 ≡ refused NoSuch 0) × (lookPoint K4 0 ≡ refused NoSuch 0) ×
     (moveAt K4 tool 27 ≡ good (cut 320 240)) × (moveAt K4 tool 45 ≡ refused NoSuch 0) × (moveAt K3 tool 0 ≡ refused Unfinished 0) ×
     (moveAt K3 (record { pitch = 81; depth = 40; clearance = 1 }) 0 ≡ refused BadTool 0)
-unfolding judge placedNew addEntries readRest readPoints readOrder drawingBytes
+unfolding callTests judge placedNew addEntries readRest readPoints readOrder drawingBytes
 others = (refl, refl, refl, refl, refl, refl, refl, refl, refl, refl)

@@ -18,7 +18,8 @@ use Rattle.store_links.specs.Judging.{passes}
 use Rattle.store_links.specs.Placing.{changeFrom, allReachFrom, innerCount}
 use Rattle.store_links.specs.Runs.{Within, Distinct}
 use Rattle.store_links.specs.Storing.{spotFor, judged, withPoint, withCounts}
-use Rattle.store_laws.specs.Tests.{passes-is, five-passed, run-within, run-distinct}
+use Rattle.promise.specs.Accepted.{tests-passed}
+use Rattle.store_laws.specs.Tests.{passes-is, run-within, run-distinct}
 use Rattle.store_laws.specs.Reading.{run-size}
 use Rattle.store_laws.specs.Spots.{Bounded, bounded, spot-h}
 use Rattle.store_laws.specs.Step.{lines-fit}
@@ -55,7 +56,7 @@ passing {a} {c} r es h =
     let t = r .holds .stores in
     let s = r .holds .standing .sound in
     let g = r .holds .standing .ranged in
-    let p = five-passed d (map entryOf es) (sym (passes-is t s es) ∙ h) in
+    let p = tests-passed d (map entryOf es) (sym (passes-is t s es) ∙ h) in
     let q = p .run in
     let room : d .k < 1024 = omega (arith, p .room, g .high) in
     record {

@@ -10,13 +10,8 @@ use Rattle.rules.specs.declared.Refusal.{Refusal}
 use Rattle.rules.specs.declared.Refusal.the-variants.{Finished, FewEntries, NotWhole}
 use Rattle.rules.specs.declared.Answer.the-variants.{Accepted, Refused}
 use Rattle.rules.specs.Refusals.{Result, good, refused, _>>_, refuseIf, answer}
-use Rattle.rules.specs.Answers.{accepted}
+use Rattle.rules.specs.Results.{accepted, stops}
 use Rattle.store_links.specs.Judging.{entriesPass, runPasses, passes}
-
--- a refusal is the answer, whatever comes behind it
-stops : (q r : Result (Unit {0})) (f : Refusal) (p : ℕ) → answer q ≡ Refused f p → answer q ≡ answer (q >> r)
-stops (good tt) r f p h = cc
-stops (refused g o) r f p h = refl
 
 module _ (owner next : List ℕ) (n k m : ℕ) (es : List ℕ) where
   -- 21

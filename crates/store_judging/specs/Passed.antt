@@ -15,20 +15,12 @@ use Rattle.rules.specs.declared.Refusal.the-variants.{NotPlaced, Covered}
 use Rattle.rules.specs.declared.Answer.{Answer}
 use Rattle.rules.specs.declared.Answer.the-variants.{Accepted, Refused}
 use Rattle.rules.specs.Refusals.{Result, good, refused, _>>_, refuseIf, answer}
-use Rattle.rules.specs.Answers.{accepted, refusing}
+use Rattle.rules.specs.Bools.{neither}
+use Rattle.rules.specs.Results.{accepted, refusing, tested}
 use Rattle.store_links.specs.Arrays.{atPoint}
 use Rattle.store_links.specs.Judging.{pointIn, entriesPass}
 use Rattle.store_links.specs.Placing.{entryPoint}
 use Rattle.store_links.specs.Runs.{Within}
-
--- a test that was passed is false, and the tests behind it are passed
-pub behind : (b : Bool) (f : Refusal) (p : ℕ) (r : Result (Unit {0})) → (refuseIf b f p >> r) ≡ good tt → (b ≡ false) × (r ≡ good tt)
-behind true f p r h = (cc, cc)
-behind false f p r h = (refl, h)
-
-or-false : (a b : Bool) → (a || b) ≡ false → (a ≡ false) × (b ≡ false)
-or-false true b h = (h, cc)
-or-false false b h = (refl, h)
 
 -- one more entry whose point is placed
 within-more : (k e : ℕ) (es : List ℕ) → 0 < pointIn e → pointIn e ≤ k → Within k es → Within k (e ∷ es)
@@ -46,11 +38,11 @@ within-more k e es above below rest = record { low = low; high = high }
 pub entries-within : (owner : List ℕ) (k i : ℕ) (es : List ℕ) → entriesPass owner k i es ≡ good tt → Within k es
 entries-within owner k i [] h = record { low = λ j l. absurd (omega arith); high = λ j l. absurd (omega arith) }
 entries-within owner k i (e ∷ es) h =
-    let six = behind (eqb (pointIn e) 0 || ltb k (pointIn e)) NotPlaced i _ h in
-    let seven = behind (not (eqb (atPoint owner (pointIn e)) 0)) Covered i _ (six .1) in
-    let t = or-false (eqb (pointIn e) 0) (ltb k (pointIn e)) (six .0) in
+    let six = tested (eqb (pointIn e) 0 || ltb k (pointIn e)) NotPlaced i _ tt h in
+    let seven = tested (not (eqb (atPoint owner (pointIn e)) 0)) Covered i _ tt (six .last) in
+    let t = neither (eqb (pointIn e) 0) (ltb k (pointIn e)) (six .passed) in
     within-more k e es (pos-of-ne-zero (eqb-false (pointIn e) 0 (t .0))) (ltb-false k (pointIn e) (t .1))
-    (entries-within owner k (suc i) es (seven .1))
+    (entries-within owner k (suc i) es (seven .last))
 
 -- among more points too
 pub within-up : (k l : ℕ) (es : List ℕ) → k ≤ l → Within k es → Within l es

@@ -21,10 +21,10 @@ use Rattle.store_links.specs.Placing.{entryPoint, innerCount, way}
 use Rattle.store_links.specs.Storing.{withPoint}
 use Rattle.promise.specs.Nets.{netOf}
 use Rattle.promise.specs.Moved.{amount1, amount2}
-use Rattle.promise.specs.Columns.{newOwners, k-next, owners-next}
+use Rattle.promise.specs.Columns.{newOwners, k-next, owners-next, index-is}
 use Rattle.promise.specs.Places as Places
 use Rattle.store_laws.specs.Puts.{gaps-in}
-use Rattle.store_laws.specs.Points.{Call, after, Inner, size, entry-w, w-low, index-on, w-differ, inner-in, inner-entry, taking}
+use Rattle.store_laws.specs.Points.{Call, after, Inner, size, entry-w, w-low, w-differ, inner-in, inner-entry, taking}
 use Rattle.store_laws.specs.Links.{gapsOver, gap-over, gap-other, x-inner, x-new}
 
 module _ {d : Drawing} {a : Arrays} {c : Counts} {es : List ℕ} {l r : ℕ} {p : Spot} {from : ℕ} (h : Call d a c es l r p from) where
@@ -83,7 +83,7 @@ module _ {d : Drawing} {a : Arrays} {c : Counts} {es : List ℕ} {l r : ℕ} {p 
     -- It is no boundary point.
     off-boundary : (j : ℕ) → j < m d → suc q ≢ w d j
     off-boundary j jm t =
-        let i : indexOf (suc q) (d .boundary) ≡ j = ap (λ (v : ℕ). indexOf v (d .boundary)) t ∙ index-on h j jm in
+        let i : indexOf (suc q) (d .boundary) ≡ j = ap (λ (v : ℕ). indexOf v (d .boundary)) t ∙ index-is (h .sound) j jm in
         omega (arith, h .sound .rooted .free q (omega arith), e)
 
     -- Its owner is placed, in the same column.

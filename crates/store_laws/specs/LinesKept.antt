@@ -14,6 +14,7 @@ use Rattle.rules.specs.declared.Bend.the-variants.{Straight}
 use Rattle.rules.specs.Basics.{if_then_else_, nth, grow}
 use Rattle.rules.specs.Points.{Drawing, dlOf, drOf, w, lineAt}
 use Rattle.rules.specs.Entries.{entryOf}
+use Rattle.rules.specs.Lengths.{length-call}
 use Rattle.rules.specs.Adding.{pointsOf, newLines, newBend, D}
 use Rattle.store_links.specs.declared.Spot.{Spot}
 use Rattle.store_links.specs.declared.Counts.{Counts}
@@ -25,7 +26,7 @@ use Rattle.promise.specs.Next.{next}
 use Rattle.promise.specs.Lined.{length-lines, grow-at}
 use Rattle.promise.specs.Lines.{changeOf}
 use Rattle.store_laws.specs.Puts.{filled-in, filled-out}
-use Rattle.store_laws.specs.Points.{Call, after, first-at, length-points, first-w, last-w, lm, w-low}
+use Rattle.store_laws.specs.Points.{Call, after, first-at, first-w, last-w, lm, w-low}
 
 -- ---- plain lists
 
@@ -70,7 +71,7 @@ module _ {d : Drawing} {a : Arrays} {c : Counts} {es : List ℕ} {l r : ℕ} {p 
       let v = w-low h r (h .run .rm) in
       let s = h .sound .sized in
       lines-grown d es l r ∙
-      rw (grow-at (d .drs) (w d l) (u .0) (omega (arith, s .drs)), grow-at (d .dls) (w d r) (v .0) (omega (arith, s .dls)), length-points es)
+      rw (grow-at (d .drs) (w d l) (u .0) (omega (arith, s .drs)), grow-at (d .dls) (w d r) (v .0) (omega (arith, s .dls)), length-call es)
 
   -- There is one more for each entry.
   pub count-after : length (after d es l r .lines) ≡ length (d .lines) + length es

@@ -6,12 +6,13 @@ use mathlib.Core.Bool.{Bool, true, false, true≢false}
 use mathlib.Core.List.{List, [], _∷_, map}
 use native.Mathlib.Omega.{arith}
 use native.Mathlib.Decide.{ℕ-discrete}
-use lib.ListN.{length, getD, take, set, length-map, List·getD-map}
+use lib.ListN.{length, getD, take, set}
 use lib.Seq.{take-suc-set, take-set-lt, set-append-left, length-take-le, getD-take, ext-getD}
 use Rattle.rules.specs.Basics.{grow, snoc, indexOf}
 use Rattle.rules.specs.Points.{Drawing, w, m}
 use Rattle.rules.specs.Entries.{entryOf}
-use Rattle.rules.specs.Adding.{pointsOf, spread, newY, inside, owned}
+use Rattle.rules.specs.Lengths.{length-call}
+use Rattle.rules.specs.Adding.{spread, newY, inside, owned}
 use Rattle.net.specs.Side.{rt, lf}
 use Rattle.store_links.specs.declared.Spot.{Spot}
 use Rattle.store_links.specs.declared.Counts.{Counts}
@@ -23,9 +24,9 @@ use Rattle.promise.specs.Sound.{Sound}
 use Rattle.promise.specs.Next.{IsRun, next}
 use Rattle.promise.specs.Climb.{Took}
 use Rattle.promise.specs.Index.{index-at}
-use Rattle.promise.specs.Columns.{newOwners, k-next, owners-next, took, inside-true, true-inside, length-owned}
+use Rattle.promise.specs.Columns.{newOwners, k-next, owners-next, took, inside-true, true-inside, length-owned, index-is}
 use Rattle.promise.specs.Counts.{ports-next, hs-next, length-snoc}
-use Rattle.promise.specs.Kept.{index-is}
+use Rattle.store_laws.specs.Reading.{run-size, entry-is}
 use Rattle.store_laws.specs.Spotted.{Spotted}
 use Rattle.store_laws.specs.Puts.{put-same, put-other, length-put, length-owners, owners-in, owners-out}
 
@@ -63,14 +64,6 @@ ownersWith a es v = putAt (ownersOver a es v) v 0
 
 -- ---- plain lists
 
--- The point of an entry, read from the entries of the rules.
-pub points-at : (es : List ℕ) (i : ℕ) → getD (pointsOf (map entryOf es)) i 0 ≡ entryPoint es i
-points-at es i = List·getD-map (λ e. e .point) (map entryOf es) i (entryOf 0) ∙ ap (λ e. e .point) (List·getD-map entryOf es i 0)
-
--- Each entry names a point.
-pub length-points : (es : List ℕ) → length (pointsOf (map entryOf es)) ≡ length es
-length-points es = length-map (map entryOf es) (λ e. e .point) ∙ length-map es entryOf
-
 -- To grow element p is to put one more there.
 grow-set : (l : List ℕ) (p : ℕ) → 0 < p → grow l p ≡ set l (pred p) (suc (getD l (pred p) 0))
 grow-set [] p h = refl
@@ -107,11 +100,11 @@ module _ {d : Drawing} {a : Arrays} {c : Counts} {es : List ℕ} {l r : ℕ} {p 
 
   -- It has r - l + 1 points.
   pub size : l + length es ≡ suc r
-  size = omega (arith, h .run .size, length-map es entryOf)
+  size = run-size es (h .run)
 
   -- Entry i names boundary point l + i.
   pub entry-w : (i : ℕ) → l + i ≤ r → entryPoint es i ≡ w d (l + i)
-  entry-w i ir = sym (points-at es i) ∙ h .run .point i ir
+  entry-w i ir = entry-is es (h .run) i ir
 
   -- The first entry names wl.
   pub first-w : entryPoint es 0 ≡ w d l
@@ -131,13 +124,9 @@ module _ {d : Drawing} {a : Arrays} {c : Counts} {es : List ℕ} {l r : ℕ} {p 
   pub w-low : (i : ℕ) → i < m d → (0 < w d i) × (w d i ≤ d .k)
   w-low i im = h .sound .rooted .low i im
 
-  -- Boundary point i has index i.
-  pub index-on : (i : ℕ) → i < m d → indexOf (w d i) (d .boundary) ≡ i
-  index-on i im = index-is d (map entryOf es) l r (h .sound) (h .run) i im
-
   -- Boundary points with different indices differ.
   pub w-differ : (i j : ℕ) → i < m d → j < m d → i ≢ j → w d i ≢ w d j
-  w-differ i j im jm n e = n (sym (index-on i im) ∙ ap (λ (q : ℕ). indexOf q (d .boundary)) e ∙ index-on j jm)
+  w-differ i j im jm n e = n (sym (index-is (h .sound) i im) ∙ ap (λ (q : ℕ). indexOf q (d .boundary)) e ∙ index-is (h .sound) j jm)
 
   -- ---- heights, depths of rows, ports
 
@@ -152,7 +141,7 @@ module _ {d : Drawing} {a : Arrays} {c : Counts} {es : List ℕ} {l r : ℕ} {p 
   pub hs-kept : take (after d es l r .k) (withPoint a c es p from .hs) ≡ after d es l r .hs
   unfolding withPoint
   hs-kept =
-      rw (k-next, h .stores .k, h .spotted .h, hs-next, length-points es)
+      rw (k-next, h .stores .k, h .spotted .h, hs-next, length-call es)
       (take-more (a .hs) (d .hs) (d .k) (length es / 2) (omega (arith, h .sized .hs, h .room)) (h .stores .hs))
 
   -- The left ports are the next drawing's.
@@ -184,7 +173,7 @@ module _ {d : Drawing} {a : Arrays} {c : Counts} {es : List ℕ} {l r : ℕ} {p 
   entry-inside j z b =
       let jr : l + j < r = omega (arith, size, h .run .lr) in
       let e : indexOf (entryPoint es j) (d .boundary) ≡ l + j =
-      ap (λ (q : ℕ). indexOf q (d .boundary)) (entry-w j (omega arith)) ∙ index-on (l + j) (omega (arith, h .run .rm))
+      ap (λ (q : ℕ). indexOf q (d .boundary)) (entry-w j (omega arith)) ∙ index-is (h .sound) (l + j) (omega (arith, h .run .rm))
       in
       true-inside l r (d .boundary) (entryPoint es j) (omega arith) (omega arith)
 

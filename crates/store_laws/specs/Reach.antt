@@ -10,9 +10,11 @@ use borrow.Author.Tests.{leb-true, leb-false, le-leb, lt-leb}
 use Rattle.rules.specs.declared.Refusal.the-variants.{NoReach}
 use Rattle.rules.specs.Basics.{if_then_else_}
 use Rattle.rules.specs.Refusals.{refuseIf}
+use Rattle.rules.specs.Results.{then-same}
+use Rattle.rules.specs.Lengths.{length-call}
 use Rattle.rules.specs.Points.{Drawing, xOf, yOf, w}
 use Rattle.rules.specs.Entries.{entryOf}
-use Rattle.rules.specs.Adding.{spread, newX, newY, inner, rowHeight, reaches, change, allReach, pointsOf, judge}
+use Rattle.rules.specs.Adding.{spread, newX, newY, inner, rowHeight, reaches, change, allReach, pointsOf, callTests, judge}
 use Rattle.store_links.specs.declared.Counts.{Counts}
 use Rattle.store_links.specs.declared.Spot.{Spot}
 use Rattle.store_links.specs.Arrays.{Arrays, Stores, atPoint}
@@ -26,9 +28,10 @@ use Rattle.promise.specs.Moved.{amount1, amount2}
 use Rattle.promise.specs.Places.{x-on}
 use Rattle.promise.specs.Change.{getD-inner, length-inner}
 use Rattle.promise.specs.Lines.{changeOf}
+use Rattle.promise.specs.Accepted.{tests-passed}
 use Rattle.store_laws.specs.Spotted.{Spotted}
-use Rattle.store_laws.specs.Reading.{runOf, points-length, y-at, run-size, entry-says, way-is}
-use Rattle.store_laws.specs.Tests.{seq-same, fiveTests, judge-five, passes-is, five-passed}
+use Rattle.store_laws.specs.Reading.{runOf, y-at, run-size, entry-says, way-is}
+use Rattle.store_laws.specs.Tests.{passes-is}
 use Rattle.store_laws.specs.Spots.{spot-x, spot-y, spot-h, spot-s1, spot-rest}
 
 -- ---- plain numbers
@@ -90,15 +93,15 @@ module _ {d : Drawing} {a : Arrays} {c : Counts} (es : List ℕ) {l r : ℕ} (t 
   -- Inner point j, from 0, is boundary point l + j + 1.
   inner-point : (j k : ℕ) → k ≡ suc j → l + k < r → w d (l + k) ≡ getD (inner (runOf es)) j 0
   inner-point j k e h =
-      sym (q .point k (omega arith)) ∙ ap (λ n. getD (runOf es) n 0) e ∙ sym (getD-inner (runOf es) j (omega (arith, points-length es, run-size es q)))
+      sym (q .point k (omega arith)) ∙ ap (λ n. getD (runOf es) n 0) e ∙ sym (getD-inner (runOf es) j (omega (arith, length-call es, run-size es q)))
 
   -- The run has as many inner points as the code counts.
   inner-count : length (inner (runOf es)) ≡ innerCount es
-  inner-count = length-inner (runOf es) ∙ ap (λ n. n - 2) (points-length es)
+  inner-count = length-inner (runOf es) ∙ ap (λ n. n - 2) (length-call es)
 
   -- The row is as high.
   row-is : spotFor a es .h ≡ rowHeight (runOf es)
-  row-is = spot-h es t s q ∙ ap (λ n. n / 2) (sym (points-length es))
+  row-is = spot-h es t s q ∙ ap (λ n. n / 2) (sym (length-call es))
 
   -- The tests agree on the inner points.
   agree : Agree (spotFor a es) (a .gap) (a .ys) es (newX l r (spread l r d)) (newY l r (spread l r d)) (rowHeight (runOf es)) (spread l r d) 1 (inner (runOf es))
@@ -140,8 +143,7 @@ module _ {d : Drawing} {a : Arrays} {c : Counts} (es : List ℕ) {l r : ℕ} (t 
 
 -- The code judges a call as the rules do.
 pub judged-is : {d : Drawing} {a : Arrays} {c : Counts} → Stores d a c → Sound d → (es : List ℕ) → judged a c es ≡ judge d (pointsOf (map entryOf es))
-unfolding judged
+unfolding judged judge
 judged-is {d} {a} {c} t s es =
-    seq-same (passes (a .owner) (a .next) (c .n) (c .k) (c .m) es) (fiveTests d (runOf es)) _ _ (passes-is t s es)
-    (λ h. ap (λ b. refuseIf (not b) NoReach 0) (reach-is es t s (five-passed d (map entryOf es) (sym (passes-is t s es) ∙ h) .run))) ∙
-    sym (judge-five d (runOf es))
+    then-same (passes (a .owner) (a .next) (c .n) (c .k) (c .m) es) (callTests d (runOf es)) _ _ (passes-is t s es)
+    (λ h. ap (λ b. refuseIf (not b) NoReach 0) (reach-is es t s (tests-passed d (map entryOf es) (sym (passes-is t s es) ∙ h) .run)))

@@ -30,11 +30,6 @@ entry-point [] i = refl
 entry-point (e ∷ es) zero = refl
 entry-point (e ∷ es) (suc i) = entry-point es i
 
--- There is one point for each entry.
-pub points-length : (es : List ℕ) → length (runOf es) ≡ length es
-points-length [] = refl
-points-length (e ∷ es) = ap suc (points-length es)
-
 module _ {d : Drawing} {a : Arrays} {c : Counts} (t : Stores d a c) where
   -- The owner of a placed point.
   pub owner-at : (p : ℕ) → 0 < p → p ≤ d .k → atPoint (a .owner) p ≡ ownerOf d p

@@ -1,4 +1,4 @@
--- The tests before 25 (21, 5, 6, 7, 8, 9) on owners and links are those of the rules, and what a call that passes them is known to be.
+-- The tests before 25 (21, 5, 6, 7, 8, 9) on owners and links are those of the rules, and what the entries of a call that passes them are known to be.
 use Prim.Native.Nat.{ℕ, zero, suc, pred, _+_, _-_, _<_, _≤_}
 use mathlib.Core.Path.{_≡_, refl, sym, ap, ap₂, _∙_}
 use mathlib.Core.Logic.{_≢_}
@@ -10,15 +10,16 @@ use lib.ListN.{length, getD, drop, length-drop, length-map, drop-of-length-le}
 use lib.Seq.{getD-drop, drop-cons}
 use lib.Dec.{leb, ltb, eqb, leb·suc-suc}
 use borrow.Author.Tests.{ltb-true, ltb-false, leb-false, eqb-true, eqb-false, lt-ltb, eq-eqb, ne-eqb, not-false}
-use Rattle.rules.specs.declared.Entry.{Entry}
-use Rattle.rules.specs.declared.Refusal.{Refusal}
 use Rattle.rules.specs.declared.Refusal.the-variants.{Finished, FewEntries, NotPlaced, Covered, NoRun, NotWhole}
 use Rattle.rules.specs.Basics.{if_then_else_, elem, indexOf}
-use Rattle.rules.specs.Refusals.{Result, good, refused, _>>_, refuseIf}
+use Rattle.rules.specs.Refusals.{good, _>>_, refuseIf}
+use Rattle.rules.specs.Bools.{neither}
+use Rattle.rules.specs.Results.{test-false, tested, then-same}
+use Rattle.rules.specs.Lengths.{length-call}
 use Rattle.rules.specs.Entries.{entryOf}
 use Rattle.rules.specs.Points.{Drawing, ownerOf, w, m}
 use Rattle.rules.specs.Moving.{column}
-use Rattle.rules.specs.Adding.{lOf, rOf, spread, pointsOf, entryTests, runTests, wholeTest, reachTest, judge}
+use Rattle.rules.specs.Adding.{lOf, pointsOf, entryTests, runTests, callTests}
 use Rattle.store_links.specs.declared.Counts.{Counts}
 use Rattle.store_links.specs.Arrays.{Arrays, Stores, atPoint}
 use Rattle.store_links.specs.Judging.{pointIn, entriesPass, linksPass, runPasses, passes}
@@ -28,56 +29,7 @@ use Rattle.promise.specs.Sound.{Sound}
 use Rattle.promise.specs.Next.{IsRun}
 use Rattle.promise.specs.Index.{index-at}
 use Rattle.promise.specs.Climb.{climb-root}
-use Rattle.store_laws.specs.Reading.{owner-at, points-length, entry-is, run-size, run-low}
-
--- ---- results
-
--- Where the rest of a sequence is two parts, the second of them can be split off the whole.
-seq-split : (x y z z′ : Result (Unit {0})) → y ≡ (z >> z′) → (x >> y) ≡ (x >> z >> z′)
-seq-split (good u) y z z′ e = e
-seq-split (refused r p) y z z′ e = refl
-
--- Two sequences are equal where their first parts are, and their second parts once the first passed.
-pub seq-same : (x x′ y y′ : Result (Unit {0})) → x ≡ x′ → (x ≡ good tt → y ≡ y′) → (x >> y) ≡ (x′ >> y′)
-seq-same x x′ y y′ e f = go x refl ∙ ap (λ z. z >> y′) e
-  where
-    go : (z : Result (Unit {0})) → x ≡ z → (z >> y) ≡ (z >> y′)
-    go (good u) h = f h
-    go (refused r p) h = refl
-
--- A refusal is no pass.
-never : {r : Refusal} {p : ℕ} → _≡_ {A = Result (Unit {0})} (refused r p) (good tt) → ⊥
-never q = let z : _≡_ {A = ℕ} 0 1 = cc in omega arith
-
--- A sequence that passed passed both parts.
-seq-good : (x y : Result (Unit {0})) → (x >> y) ≡ good tt → (x ≡ good tt) × (y ≡ good tt)
-seq-good (good u) y h = (refl, h)
-seq-good (refused r p) y h = absurd (never h)
-
--- A test that passed was false.
-test-good : (b : Bool) (r : Refusal) (p : ℕ) → refuseIf b r p ≡ good tt → b ≡ false
-test-good true r p h = absurd (never h)
-test-good false r p h = refl
-
--- ---- the five tests of the rules
-
--- 21, 5, 6 and 7, 8, 9: the first five lines of `judge`
-unfoldable pub fiveTests : Drawing → List ℕ → Result (Unit {0})
-fiveTests d run = do
-  refuseIf (leb (d .n) (d .k)) Finished 0
-  refuseIf (ltb (length run) 2) FewEntries 0
-  entryTests d 0 run
-  runTests 0 (drop (lOf d run) (d .boundary)) run
-  wholeTest d run
-
--- `judge` is these, then 25.
-pub judge-five : (d : Drawing) (run : List ℕ) →
-    judge d run ≡ (fiveTests d run >> reachTest (lOf d run) (rOf d run) (spread (lOf d run) (rOf d run) d) run)
-unfolding judge fiveTests
-judge-five d run =
-    seq-split (refuseIf (leb (d .n) (d .k)) Finished 0) _ _ _
-    (seq-split (refuseIf (ltb (length run) 2) FewEntries 0) _ _ _
-    (seq-split (entryTests d 0 run) _ _ _ (seq-split (runTests 0 (drop (lOf d run) (d .boundary)) run) _ (wholeTest d run) _ refl)))
+use Rattle.store_laws.specs.Reading.{owner-at, entry-is, run-size, run-low}
 
 -- ---- 7: a placed point stands on the boundary exactly where nobody owns it
 
@@ -111,20 +63,19 @@ record Stands (owner : List ℕ) (k p : ℕ) : Type 0 where
 
 -- Where 6 is false, the point is placed.
 placed-test : (k p : ℕ) → (eqb p 0 || ltb k p) ≡ false → (0 < p) × (p ≤ k)
-placed-test k p h = go (eqb p 0) refl h
-  where
-    go : (t : Bool) → eqb p 0 ≡ t → (t || ltb k p) ≡ false → (0 < p) × (p ≤ k)
-    go true e f = absurd (true≢false f)
-    go false e f = let n : ¬ (p ≡ 0) = eqb-false p 0 e in (omega arith, ltb-false k p f)
+placed-test k p h =
+    let t = neither (eqb p 0) (ltb k p) h in
+    let n : ¬ (p ≡ 0) = eqb-false p 0 (t .0) in
+    (omega arith, ltb-false k p (t .1))
 
 -- 6 and 7 passed for every entry.
 entries-stand : (owner : List ℕ) (k i : ℕ) (es : List ℕ) → entriesPass owner k i es ≡ good tt → (j : ℕ) → j < length es → Stands owner k (entryPoint es j)
 entries-stand owner k i [] h j b = absurd (omega arith)
 entries-stand owner k i (e ∷ es) h j b =
-    let h6 = seq-good (refuseIf (eqb (pointIn e) 0 || ltb k (pointIn e)) NotPlaced i) _ h in
-    let h7 = seq-good (refuseIf (not (eqb (atPoint owner (pointIn e)) 0)) Covered i) _ (h6 .1) in
-    go j b (placed-test k (pointIn e) (test-good _ NotPlaced i (h6 .0))) (eqb-true (atPoint owner (pointIn e)) 0 (not-false _ (test-good _ Covered i (h7 .0))))
-    (entries-stand owner k (suc i) es (h7 .1))
+    let h6 = tested (eqb (pointIn e) 0 || ltb k (pointIn e)) NotPlaced i _ tt h in
+    let h7 = tested (not (eqb (atPoint owner (pointIn e)) 0)) Covered i _ tt (h6 .last) in
+    go j b (placed-test k (pointIn e) (h6 .passed)) (eqb-true (atPoint owner (pointIn e)) 0 (not-false _ (h7 .passed)))
+    (entries-stand owner k (suc i) es (h7 .last))
   where
     go : (j : ℕ) → j < length (e ∷ es) → (0 < pointIn e) × (pointIn e ≤ k) → atPoint owner (pointIn e) ≡ 0 → ((j : ℕ) → j < length es → Stands owner k (entryPoint es j)) →
         Stands owner k (entryPoint (e ∷ es) j)
@@ -142,10 +93,10 @@ module _ {d : Drawing} {a : Arrays} {c : Counts} (t : Stores d a c) (s : Sound d
   entries-same i [] = refl
   entries-same i (e ∷ es) =
       let p = pointIn e in
-      seq-same (refuseIf (eqb p 0 || ltb (c .k) p) NotPlaced i) (refuseIf (eqb p 0 || ltb (d .k) p) NotPlaced i) _ _
+      then-same (refuseIf (eqb p 0 || ltb (c .k) p) NotPlaced i) (refuseIf (eqb p 0 || ltb (d .k) p) NotPlaced i) _ _
       (ap (λ k. refuseIf (eqb p 0 || ltb k p) NotPlaced i) (t .k))
-      (λ h. let b = placed-test (c .k) p (test-good _ NotPlaced i h) in
-      seq-same (refuseIf (not (eqb (atPoint (a .owner) p) 0)) Covered i) (refuseIf (not (elem p (d .boundary))) Covered i) _ _
+      (λ h. let b = placed-test (c .k) p (test-false _ NotPlaced i h) in
+      then-same (refuseIf (not (eqb (atPoint (a .owner) p) 0)) Covered i) (refuseIf (not (elem p (d .boundary))) Covered i) _ _
       (ap (λ u. refuseIf (not u) Covered i) (covered-same p (b .0) (omega (arith, t .k))))
       (λ h′. entries-same (suc i) es))
 
@@ -178,9 +129,9 @@ module _ {d : Drawing} {a : Arrays} {c : Counts} (t : Stores d a c) (s : Sound d
       inside : (b : suc j < m d) → (((n : ℕ) → n < length es → 0 < entryPoint es n) → linksPass (a .next) (suc i) (w d (suc j)) es ≡ runTests (suc i) (drop (suc (suc j)) (d .boundary)) ps) →
           linksPass (a .next) i (w d j) (e ∷ es) ≡ runTests i (drop (suc j) (d .boundary)) (pointIn e ∷ ps)
       inside b ih =
-          seq-same (refuseIf (not (eqb (pointIn e) (atPoint (a .next) (w d j)))) NoRun i) (refuseIf (not (eqb (pointIn e) (atPoint (a .next) (w d j)))) NoRun i) _ _ refl
+          then-same (refuseIf (not (eqb (pointIn e) (atPoint (a .next) (w d j)))) NoRun i) (refuseIf (not (eqb (pointIn e) (atPoint (a .next) (w d j)))) NoRun i) _ _ refl
           (λ k.
-          let p : pointIn e ≡ w d (suc j) = eqb-true _ _ (not-false _ (test-good _ NoRun i k)) ∙ t .link j b in
+          let p : pointIn e ≡ w d (suc j) = eqb-true _ _ (not-false _ (test-false _ NoRun i k)) ∙ t .link j b in
           ap (λ q. linksPass (a .next) (suc i) q es) p ∙ ih (λ n f. g (suc n) (omega arith))) ∙
           ap (λ ws. runTests i ws (pointIn e ∷ ps)) (sym (link-is j b))
 
@@ -215,73 +166,21 @@ module _ {d : Drawing} {a : Arrays} {c : Counts} (t : Stores d a c) (s : Sound d
       front : drop l (d .boundary) ≡ w d l ∷ drop (suc l) (d .boundary)
       front = drop-cons (d .boundary) l 0 in-l
 
-  -- The tests on owners and links are the first five of the rules.
-  pub passes-is : (es : List ℕ) → passes (a .owner) (a .next) (c .n) (c .k) (c .m) es ≡ fiveTests d (pointsOf (map entryOf es))
-  unfolding passes fiveTests
+  -- The tests on owners and links are those of the rules before 25.
+  pub passes-is : (es : List ℕ) → passes (a .owner) (a .next) (c .n) (c .k) (c .m) es ≡ callTests d (pointsOf (map entryOf es))
+  unfolding passes callTests
   passes-is es =
       let run = pointsOf (map entryOf es) in
-      seq-same (refuseIf (leb (c .n) (c .k)) Finished 0) _ _ _ (ap₂ (λ n k. refuseIf (leb n k) Finished 0) (t .n) (t .k))
-      (λ h21. seq-same (refuseIf (ltb (length es) 2) FewEntries 0) _ _ _ (ap (λ n. refuseIf (ltb n 2) FewEntries 0) (sym (points-length es)))
-      (λ h5. seq-same (entriesPass (a .owner) (c .k) 0 es) _ _ _ (entries-same 0 es)
-      (λ h6. seq-same (runPasses (a .next) es) _ _ _ (run-same es (λ n b. rw (← t .k) (entries-stand (a .owner) (c .k) 0 es h6 n b)))
-      (λ h8. whole-same (length es) (length run) (sym (points-length es))))))
+      then-same (refuseIf (leb (c .n) (c .k)) Finished 0) _ _ _ (ap₂ (λ n k. refuseIf (leb n k) Finished 0) (t .n) (t .k))
+      (λ h21. then-same (refuseIf (ltb (length es) 2) FewEntries 0) _ _ _ (ap (λ n. refuseIf (ltb n 2) FewEntries 0) (sym (length-call es)))
+      (λ h5. then-same (entriesPass (a .owner) (c .k) 0 es) _ _ _ (entries-same 0 es)
+      (λ h6. then-same (runPasses (a .next) es) _ _ _ (run-same es (λ n b. rw (← t .k) (entries-stand (a .owner) (c .k) 0 es h6 n b)))
+      (λ h8. whole-same (length es) (length run) (sym (length-call es))))))
     where
       whole-same : (j j′ : ℕ) → j ≡ j′ → refuseIf (eqb (c .k + 1) (c .n) && not (eqb j (c .m))) NotWhole 0 ≡ refuseIf (eqb (d .k + 1) (d .n) && not (eqb j′ (m d))) NotWhole 0
       whole-same j j′ e = cc (t .k, t .n, t .m)
 
--- ---- what a call that passed is known to be
-
--- 8 passed: the run is no longer than the boundary's rest, and has its points.
-run-front : (i : ℕ) (ws run : List ℕ) → runTests i ws run ≡ good tt → (length run ≤ length ws) × ((j : ℕ) → j < length run → getD run j 0 ≡ getD ws j 0)
-run-front i ws [] h = (omega arith, λ j b. absurd (omega arith))
-run-front i [] (p ∷ run) h = absurd (never h)
-run-front i (q ∷ ws) (p ∷ run) h =
-    let k = seq-good (refuseIf (not (eqb p q)) NoRun i) (runTests (suc i) ws run) h in
-    go (eqb-true p q (not-false (eqb p q) (test-good _ NoRun i (k .0)))) (run-front (suc i) ws run (k .1))
-  where
-    go : p ≡ q → (length run ≤ length ws) × ((j : ℕ) → j < length run → getD run j 0 ≡ getD ws j 0) →
-        (length (p ∷ run) ≤ length (q ∷ ws)) × ((j : ℕ) → j < length (p ∷ run) → getD (p ∷ run) j 0 ≡ getD (q ∷ ws) j 0)
-    go e f = (omega (arith, f .0), points)
-      where
-        points : (j : ℕ) → j < length (p ∷ run) → getD (p ∷ run) j 0 ≡ getD (q ∷ ws) j 0
-        points zero b = e
-        points (suc j) b = f .1 j (omega arith)
-
--- there is room, the entries are the boundary from l to r, and point n's run is the whole boundary
-pub record Passed (d : Drawing) (es : List Entry) (l r : ℕ) : Type 0 where
-  pub room : d .k < d .n
-  pub run : IsRun d es l r
-  pub whole : suc (d .k) ≡ d .n → length es ≡ m d
-
--- 9 passed: where point n comes, the run is as long as the boundary.
-whole-passed : (k n j m : ℕ) → (eqb (k + 1) n && not (eqb j m)) ≡ false → suc k ≡ n → j ≡ m
-whole-passed k n j m h e = eqb-true j m (not-false (eqb j m) (rw (eq-eqb (k + 1) n (omega arith)) at h))
-
--- The five tests tell this, where l is the index of the first entry.
-pub five-passed : (d : Drawing) (es : List Entry) → fiveTests d (pointsOf es) ≡ good tt → Passed d es (lOf d (pointsOf es)) (rOf d (pointsOf es))
-unfolding fiveTests
-five-passed d es h =
-    let run = pointsOf es in
-    let l = lOf d run in
-    let size : length run ≡ length es = length-map es (λ e. e .point) in
-    let h21 = seq-good (refuseIf (leb (d .n) (d .k)) Finished 0) _ h in
-    let h5 = seq-good (refuseIf (ltb (length run) 2) FewEntries 0) _ (h21 .1) in
-    let h6 = seq-good (entryTests d 0 run) _ (h5 .1) in
-    let h8 = seq-good (runTests 0 (drop l (d .boundary)) run) _ (h6 .1) in
-    let some : 2 ≤ length run = ltb-false (length run) 2 (test-good _ FewEntries 0 (h5 .0)) in
-    let f = run-front 0 (drop l (d .boundary)) run (h8 .0) in
-    let fits : length run ≤ m d - l = omega (arith, f .0, length-drop l (d .boundary)) in
-    record {
-      room = leb-false (d .n) (d .k) (test-good _ Finished 0 (h21 .0));
-      run =
-          record {
-            lr = omega arith;
-            rm = omega arith;
-            size = omega arith;
-            point = λ i b. f .1 i (omega arith) ∙ getD-drop l (d .boundary) i 0;
-          };
-      whole = λ e. sym size ∙ whole-passed (d .k) (d .n) (length run) (m d) (test-good _ NotWhole 0 (h8 .1)) e;
-    }
+-- ---- the entries of a run
 
 -- The entries of a run are placed.
 pub run-within : {d : Drawing} (es : List ℕ) {l r : ℕ} → Sound d → IsRun d (map entryOf es) l r → Within (d .k) es

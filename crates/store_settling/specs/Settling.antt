@@ -14,7 +14,7 @@ use Rattle.net.specs.Frame.{point-in}
 use Rattle.promise.specs.Sound.{Sound}
 use Rattle.promise.specs.Climb.{climb-root}
 use Rattle.promise.specs.Index.{index-at, index-le}
-use Rattle.promise.specs.Columns.{w-suc, w-placed, index-w}
+use Rattle.promise.specs.Columns.{w-suc, w-placed, index-is}
 use Rattle.store_links.specs.Arrays.{Arrays, atPoint, gapOffset}
 use Rattle.store_settling.specs.Walk.{walked, firstPass, Walks, walked-past, walks-past, walked-go, go-walks}
 use Rattle.store_settling.specs.Hang.{hangBy, HangsBy, hung, Hangs}
@@ -28,15 +28,11 @@ module _ {d : Drawing} (s : Sound d) where
   x-fits : (p : ℕ) → p < d .k → d .k ≤ 1024 → getD (d .xs) p 0 < 65536
   x-fits p pk small = omega (arith, point-in (s .inv) (s .border) p pk .b, s .border .width)
 
-  -- Boundary point i has index i.
-  index-is : (i : ℕ) → i < m d → indexOf (w d i) (d .boundary) ≡ i
-  index-is i h = index-w d (s .rooted) i h (s .inv .core .points .on i h .1)
-
-  -- So boundary points are different.
+  -- Boundary points are different.
   differ : (i j : ℕ) → i < j → j < m d → pred (w d i) ≢ pred (w d j)
   differ i j h jm e =
       let same : w d i ≡ w d j = omega (arith, s .rooted .low i (omega arith), s .rooted .low j jm) in
-      omega (arith, index-is i (omega arith), index-is j jm, ap (λ (p : ℕ). indexOf p (d .boundary)) same)
+      omega (arith, index-is s i (omega arith), index-is s j jm, ap (λ (p : ℕ). indexOf p (d .boundary)) same)
 
   -- There are at most k.
   m-most : m d ≤ d .k

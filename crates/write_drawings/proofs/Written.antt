@@ -15,7 +15,8 @@ use Rattle.words.specs.Bytes.{withWord}
 use Rattle.store_settling.specs.Bends.{bendIn}
 use Rattle.store_settling.specs.Lines.{lineIn}
 use Rattle.write_drawings.specs.Lists.{several, pointBytes, bendAt, lineBytes, fileBytes}
-use Rattle.write_drawings.specs.Stores.{Stored, behind, word-stored, length-several}
+use Rattle.words.specs.Writing.{Stored, behind, word-stored}
+use Rattle.write_drawings.specs.Stores.{length-several}
 
 -- The place that is found is the line's bend.
 pub bend-found : (xs : List ℕ) (a : Arrays) (e : ℕ) {l : Line} {later earlier : ℕ} {place : Place} → l ≡ lineIn a e → later ≡ l .later → earlier ≡ l .earlier →

@@ -28,7 +28,7 @@ ghost use Rattle.rules.specs.DrawingFile.{highest, drawingBytes};
 ghost use Rattle.rules.specs.Output.{filled};
 ghost use Rattle.store_tables.specs.Tables.{Full, arraysIn};
 ghost use Rattle.write_drawings.specs.Lists.{several, pointBytes, lineBytes};
-ghost use Rattle.write_drawings.specs.Stores.{Stored};
+ghost use Rattle.words.specs.Writing.{Stored};
 ghost use Rattle.write_drawings.specs.Finished.{Finished, Writable, PointsReady, LineReady, LinesReady};
 
 // The largest y of the first k points.

@@ -8,14 +8,14 @@ use Rattle.rules.specs.Refusals.{good}
 use Rattle.rules.specs.Points.{Drawing}
 use Rattle.rules.specs.OrderFile.{writeOrder}
 use Rattle.rules.specs.Output.{filled}
-use Rattle.rules.specs.RoundTrip.{length-bytes}
+use Rattle.rules.specs.Lengths.{length-bytes}
 use Rattle.store_links.specs.declared.Counts.{Counts}
 use Rattle.store_links.specs.Arrays.{Arrays, Stores}
 use Rattle.promise.specs.Bounds.{lines-most}
 use Rattle.exchange.specs.Built.{Whole}
 use Rattle.exchange.specs.Replay.{replayed}
-use Rattle.rules.specs.Records.{endMark}
-use Rattle.write_orders.specs.Pasting.{Pasted, pasted-both, length-after, pasted-start}
+use Rattle.rules.specs.Records.{bytesOf, endMark}
+use Rattle.words.specs.Writing.{Pasted, pasted-both, length-stored, stored-filled}
 use Rattle.write_orders.specs.Writing.{headWords, pointsWords, orderWords, OrderWritable, OrderWritten}
 use Rattle.write_orders.specs.Grouping.{order-is}
 
@@ -45,20 +45,21 @@ parts {a = a} {c} h =
 -- the points' records have room behind the header
 pub points-room : {out : List ℕ} {a : Arrays} {c : Counts} {out′ : List ℕ} {at : ℕ} → Parts out a c → Pasted out 0 (headWords (c .n) (c .s)) out′ at →
     at + 2 * length (pointsWords (a .words) (a .later) (c .lines) (c .n) 1 0) ≤ length out′
-points-room h p = omega (arith, h .room, p .behind, length-after p)
+points-room h p = omega (arith, h .room, p .behind, length-stored (p .is))
 
 -- and the end behind them
 pub end-room : {out : List ℕ} {a : Arrays} {c : Counts} {out′ out″ : List ℕ} {at end : ℕ} → Parts out a c → Pasted out 0 (headWords (c .n) (c .s)) out′ at →
     Pasted out′ at (pointsWords (a .words) (a .later) (c .lines) (c .n) 1 0) out″ end → end + 1 < length out″
-end-room h p q = omega (arith, h .room, p .behind, length-after p, q .behind, length-after q)
+end-room h p q = omega (arith, h .room, p .behind, length-stored (p .is), q .behind, length-stored (q .is))
 
 -- the three, one behind the other, are the order file of every finished drawing that is stored so
 pub order-written : {out : List ℕ} {a : Arrays} {c : Counts} {out′ out″ out‴ : List ℕ} {at end r : ℕ} → OrderWritable out a c → Pasted out 0 (headWords (c .n) (c .s)) out′ at →
     Pasted out′ at (pointsWords (a .words) (a .later) (c .lines) (c .n) 1 0) out″ end → Pasted out″ end (endMark ∷ []) out‴ r → (d : Drawing) → Whole d → Stores d a c → OrderWritten d out out‴ r
 order-written {out} {a} {c} {out‴ = out‴} {r = r} h head points end d w t =
     let all : Pasted out 0 (orderWords (a .words) (a .later) c) out‴ r = pasted-both head (pasted-both points end) in
-    let room : 2 * length (orderWords (a .words) (a .later) c) ≤ length out = omega (arith, h .room, length-order (h .whole) (h .stored)) in
+    let ws = orderWords (a .words) (a .later) c in
+    let room : length (bytesOf ws) ≤ length out = omega (arith, h .room, length-order (h .whole) (h .stored), length-bytes ws) in
     record {
       size = omega (arith, all .behind, length-order w t);
-      bytes = all .is ∙ pasted-start out (orderWords (a .words) (a .later) c) room ∙ ap (λ (l : List ℕ). filled out (good l)) (order-is w t);
+      bytes = stored-filled room (all .is) ∙ ap (λ (l : List ℕ). filled out (good l)) (order-is w t);
     }

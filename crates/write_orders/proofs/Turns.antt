@@ -9,7 +9,7 @@ use lib.Dec.{eqb}
 use borrow.Author.Tests.{eq-eqb, ne-eqb}
 use Rattle.rules.specs.Basics.{if_then_else_}
 use Rattle.words.specs.Bytes.{withWord}
-use Rattle.write_orders.specs.Pasting.{Pasted, Ahead, ahead-all, ahead-as, ahead-out, ahead-word, ahead-part, ahead-none}
+use Rattle.words.specs.Writing.{Pasted, Ahead, ahead-all, ahead-as, ahead-word, ahead-part, ahead-none}
 use Rattle.write_orders.specs.Writing.{again, countOf, entryWords, pointWords, pointsWords}
 
 -- one less is left
@@ -115,9 +115,7 @@ module _ {out₀ : List ℕ} {at : ℕ} {words : List ℕ} {from count : ℕ} {o
   pub entering-more : {v : ℕ} {out′ : List ℕ} → i < count → v ≡ again (getD words (from + i) 0) → out′ ≡ withWord out place v →
       Entering out₀ at words from count out′ (place + 2) (i + 1)
   entering-more b e o =
-      let t = ahead-word (ahead-as (entry-next words from count i b) (h .ahead)) in
-      let o′ = o ∙ ap (withWord out place) e in
-      record { within = omega arith; ahead = ahead-out o′ t }
+      record { within = omega arith; ahead = ahead-word (ahead-as (entry-next words from count i b) (h .ahead)) (o ∙ ap (withWord out place) e) }
 
   -- all are written
   pub entered : count ≤ i → Pasted out₀ at (entryWords words from count) out place

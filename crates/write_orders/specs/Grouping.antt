@@ -22,7 +22,7 @@ use Rattle.store_links.specs.declared.Counts.{Counts}
 use Rattle.store_links.specs.Arrays.{Arrays, Stores}
 use Rattle.exchange.specs.Built.{Built, begun, added, Whole}
 use Rattle.exchange.specs.Entries.{ends, entryFor, lengthened}
-use Rattle.write_orders.specs.Pasting.{bytes-append}
+use Rattle.rules.specs.Lengths.{bytes-append}
 use Rattle.write_orders.specs.Writing.{countOf, entryWords, pointWords, pointsWords, headWords, orderWords}
 
 -- ---- later points rise

@@ -14,7 +14,7 @@ use Rattle.rules.specs.Points.{Drawing, m}
 use Rattle.rules.specs.Adding.{newLines, pointsOf}
 use Rattle.rules.specs.Records.{written, scaleShape}
 use Rattle.rules.specs.OrderFile.{orderScale, writeOrder}
-use Rattle.rules.specs.RoundTrip.{length-bytes}
+use Rattle.rules.specs.Lengths.{length-bytes}
 use Rattle.promise.specs.Next.{next}
 use Rattle.promise.specs.Accepted.{accepted}
 use Rattle.promise.specs.Border.{m′}

@@ -19,7 +19,7 @@ ghost use Rattle.rules.specs.OrderFile.{writeOrder, longestOrder};
 ghost use Rattle.store_links.specs.Arrays.{Stores};
 ghost use Rattle.store_tables.specs.Tables.{Full, arraysIn};
 ghost use Rattle.exchange.specs.Built.{Whole};
-ghost use Rattle.write_orders.specs.Pasting.{Pasted};
+ghost use Rattle.words.specs.Writing.{Pasted};
 ghost use Rattle.write_orders.specs.Writing.{again, countOf, entryWords, pointWords, pointsWords, headWords, OrderWritable, OrderWritten};
 
 // An entry, put together again from its parts.

@@ -7,7 +7,8 @@ use borrow.Author.Needs.{needs}
 use borrow.Author.Tests.{not-true, not-false}
 use Rattle.rules.specs.Basics.{between}
 use Rattle.store_tables.specs.Tables.{arraysIn, arrays-read, ysR}
-use Rattle.drawing.specs.Places.{range, point-seen, no-point}
+use Rattle.rules.specs.Bools.{in-range}
+use Rattle.drawing.specs.Places.{point-seen, no-point}
 use Rattle.drawing.proofs.look_point.Statement.{statement}
 use Rattle.drawing.proofs.look_point.Tie as tie
 
@@ -25,7 +26,7 @@ low : (c : tie.Else1) → let p = c .before .before .args .p in (1 ≤ p) × (p 
 low c =
     let o = c .before .before in
     let h = o .pre .came .is in
-    let r = range (o .args .p) (there c) in
+    let r = in-range 1 _ (o .args .p) (there c) in
     (r .0, omega (arith, r .1, h .stores .k, h .standing .ranged .room, h .standing .ranged .high))
 
 sub-i : tie.Need-sub-i

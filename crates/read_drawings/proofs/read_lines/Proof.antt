@@ -2,7 +2,7 @@
 use mathlib.Core.Path.{sym, _∙_}
 use borrow.Author.Needs.{needs}
 use Rattle.read_drawings.specs.Whole.{file-passes}
-use Rattle.read_records.specs.Results.{accepted}
+use Rattle.rules.specs.Results.{all-passed}
 use Rattle.read_drawings.proofs.Reading.{refused-early}
 use Rattle.read_drawings.proofs.read_lines.Statement.{statement}
 use Rattle.read_drawings.proofs.read_lines.Tie as tie
@@ -25,7 +25,7 @@ returns c = let d = c .before in refused-early _ (d .before .before .judge-file 
 read-passed-requires : tie.Need-read-passed-requires
 read-passed-requires c κs =
     let d = c .before in
-    (file-passes _ (accepted _ (sym (d .before .before .judge-file .ensures) ∙ d .enum-told .given .1)), d .before .before .before .before .pre)
+    (file-passes _ (all-passed _ (sym (d .before .before .judge-file .ensures) ∙ d .enum-told .given .1)), d .before .before .before .before .pre)
 
 returns-2 : tie.Need-returns-2
 returns-2 c = search needs

@@ -6,7 +6,7 @@ use lib.ListN.{length}
 use borrow.Author.Needs.{needs}
 use Rattle.rules.specs.declared.Answer.the-variants.{Accepted}
 use Rattle.rules.specs.Refusals.{answer}
-use Rattle.read_records.specs.Results.{accepted}
+use Rattle.rules.specs.Results.{all-passed}
 use Rattle.rules.specs.Records.{headSize}
 use Rattle.read_judging.specs.Files.{nIn, linesEnd, headTests, bodyTests, head-tells, body-tells}
 use Rattle.read_judging.proofs.Stages.{file-head, file-body, file-start}
@@ -27,10 +27,10 @@ body d = sym (d .before .before .judge-body .ensures) ∙ d .enum-told3 .given .
 
 -- what n and the length then are
 range : (d : tie.After-broad) → let f = d .before .before .before .before .before .before .args .f .now in (headSize ≤ length f) × (3 ≤ d .broad .result) × (d .broad .result ≤ 1024)
-range d = let t = head-tells _ (accepted _ (head (d .before .before))) in (t .0, omega (arith, n-is d, t .1), omega (arith, n-is d, t .2))
+range d = let t = head-tells _ (all-passed _ (head (d .before .before))) in (t .0, omega (arith, n-is d, t .1), omega (arith, n-is d, t .2))
 
 there : (d : tie.After-enum-told3) → let b = d .before .before .before in linesEnd (b .broad .result) ≤ length (b .before .before .before .before .before .before .args .f .now)
-there d = body-tells _ _ (range (d .before .before .before) .0) (accepted _ (body d))
+there d = body-tells _ _ (range (d .before .before .before) .0) (all-passed _ (body d))
 
 judge-head-requires : tie.Need-judge-head-requires
 judge-head-requires c κs = search needs
@@ -47,7 +47,7 @@ returns c =
     t ∙ file-head _ _ _ (sym t ∙ c .enum-told2 .given .1)
 
 word-at-requires : tie.Need-word-at-requires
-word-at-requires c κs = omega (arith, head-tells _ (accepted _ (head c)) .0)
+word-at-requires c κs = omega (arith, head-tells _ (all-passed _ (head c)) .0)
 
 broad-requires : tie.Need-broad-requires
 broad-requires c κs = search needs

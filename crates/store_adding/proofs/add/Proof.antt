@@ -4,7 +4,7 @@ use mathlib.Core.Path.{_≡_, sym, _∙_}
 use mathlib.Core.List.{List}
 use native.Mathlib.Omega.{arith}
 use Rattle.rules.specs.Refusals.{good}
-use Rattle.rules.specs.Answers.{accepted}
+use Rattle.rules.specs.Results.{accepted}
 use Rattle.store_links.specs.declared.Counts.{Counts}
 use Rattle.store_links.specs.Arrays.{Arrays}
 use Rattle.store_tables.specs.Tables.{arraysIn}

@@ -4,7 +4,7 @@ use native.Mathlib.Omega.{arith}
 use borrow.Author.Needs.{needs}
 use Rattle.rules.specs.declared.Answer.the-variants.{Accepted}
 use Rattle.rules.specs.Refusals.{answer}
-use Rattle.rules.specs.Answers.{accepted}
+use Rattle.rules.specs.Results.{accepted}
 use Rattle.store_links.specs.Judging.{entriesPass, runPasses}
 use Rattle.store_judging.specs.Passed.{entries-within, within-up}
 use Rattle.store_judging.proofs.Stages.{finished, few, at-entries, at-run, not-last, not-whole, whole}

@@ -3,7 +3,7 @@ use Prim.Native.Nat.{_*_, _<_}
 use native.Mathlib.Omega.{arith}
 use Rattle.store_links.specs.Arrays.{Arrays}
 use Rattle.store_tables.specs.Tables.{arraysIn, region-long, ysR}
-use Rattle.write_drawings.specs.Stores.{stored-filled}
+use Rattle.words.specs.Writing.{stored-filled}
 use Rattle.write_drawings.specs.Files.{file-is}
 use Rattle.write_drawings.specs.Fitting.{points-ready, lines-ready, Ready, ready, has-room}
 use Rattle.write_drawings.proofs.Written.{file-stored}

@@ -7,7 +7,8 @@ use lib.ListN.{length}
 use Rattle.store_tables.specs.Tables.{arraysIn}
 use Rattle.rules.specs.Records.{lineSize}
 use Rattle.write_drawings.specs.Lists.{several, lineBytes}
-use Rattle.write_drawings.specs.Stores.{Stored, none-stored, record-behind}
+use Rattle.words.specs.Writing.{Stored}
+use Rattle.write_drawings.specs.Stores.{none-stored, record-behind}
 use Rattle.write_drawings.proofs.Written.{length-line}
 use Rattle.write_drawings.proofs.write_lines.Statement.{statement}
 use Rattle.write_drawings.proofs.write_lines.Tie as tie

@@ -7,7 +7,8 @@ use lib.ListN.{length}
 use Rattle.rules.specs.Records.{headSize, placeSize}
 use Rattle.write_drawings.specs.Lists.{several, pointBytes}
 use Rattle.write_drawings.proofs.Written.{point-stored}
-use Rattle.write_drawings.specs.Stores.{Stored, none-stored, record-behind}
+use Rattle.words.specs.Writing.{Stored}
+use Rattle.write_drawings.specs.Stores.{none-stored, record-behind}
 use Rattle.write_drawings.proofs.write_points.Statement.{statement}
 use Rattle.write_drawings.proofs.write_points.Tie as tie
 

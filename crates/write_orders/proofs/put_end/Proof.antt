@@ -1,6 +1,6 @@
 -- `write_orders::put_end` meets its contract: one number is pasted.
 use mathlib.Core.Path.{refl}
-use Rattle.write_orders.specs.Pasting.{pasted-nothing, pasted-then}
+use Rattle.words.specs.Writing.{pasted-nothing, pasted-then}
 use borrow.Author.Needs.{needs}
 use Rattle.write_orders.proofs.put_end.Statement.{statement}
 use Rattle.write_orders.proofs.put_end.Tie as tie

@@ -4,7 +4,7 @@ use mathlib.Core.Path.{_≡_}
 use native.Mathlib.Omega.{arith}
 use lib.ListN.{length}
 use borrow.Author.Tests.{eq-eqb, ne-eqb}
-use Rattle.write_orders.specs.Pasting.{pasted-both}
+use Rattle.words.specs.Writing.{pasted-both}
 use borrow.Author.Needs.{needs}
 use Rattle.write_orders.proofs.put_head.Statement.{statement}
 use Rattle.write_orders.proofs.put_head.Tie as tie

@@ -1,5 +1,5 @@
 -- `write_orders::put_point` meets its contract: mark and count, and the entries behind them.
-use Rattle.write_orders.specs.Pasting.{pasted-both}
+use Rattle.words.specs.Writing.{pasted-both}
 use borrow.Author.Needs.{needs}
 use Rattle.write_orders.proofs.put_point.Statement.{statement}
 use Rattle.write_orders.proofs.put_point.Tie as tie

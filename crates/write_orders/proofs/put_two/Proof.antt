@@ -3,7 +3,7 @@ use Prim.Native.Nat.{_+_}
 use mathlib.Core.Path.{_≡_, refl, _∙_, ap}
 use native.Mathlib.Omega.{arith}
 use Rattle.words.specs.Bytes.{withWord}
-use Rattle.write_orders.specs.Pasting.{pasted-nothing, pasted-then}
+use Rattle.words.specs.Writing.{pasted-nothing, pasted-then}
 use borrow.Author.Needs.{needs}
 use Rattle.write_orders.proofs.put_two.Statement.{statement}
 use Rattle.write_orders.proofs.put_two.Tie as tie

@@ -1,0 +1,34 @@
+-- How long the lists of the rules are, and lists one behind the other.
+use Prim.Native.Nat.{ℕ, suc, _*_, _/_, _%_}
+use mathlib.Core.Path.{_≡_, refl, ap, _∙_}
+use mathlib.Core.List.{List, [], _∷_, _++_, map}
+use native.Mathlib.Omega.{arith}
+use lib.ListN.{length, length-map}
+use Rattle.rules.specs.declared.Entry.{Entry}
+use Rattle.rules.specs.declared.Bend.{Bend}
+use Rattle.rules.specs.Entries.{entryOf}
+use Rattle.rules.specs.Adding.{pointsOf, newLines}
+use Rattle.rules.specs.Records.{bytesOf}
+
+-- there are as many points as entries
+pub length-points : (es : List Entry) → length (pointsOf es) ≡ length es
+length-points es = length-map es (λ e. e .point)
+
+-- so of the numbers of a call
+pub length-call : (ws : List ℕ) → length (pointsOf (map entryOf ws)) ≡ length ws
+length-call ws = length-points (map entryOf ws) ∙ length-map ws entryOf
+
+-- and as many new lines
+pub length-new : (p : ℕ) (bend : ℕ → Bend) (i : ℕ) (es : List Entry) → length (newLines p bend i es) ≡ length es
+length-new p bend i [] = refl
+length-new p bend i (e ∷ es) = ap suc (length-new p bend (suc i) es)
+
+-- numbers have two bytes each
+pub length-bytes : (ws : List ℕ) → length (bytesOf ws) ≡ 2 * length ws
+length-bytes [] = refl
+length-bytes (w ∷ ws) = omega (arith, length-bytes ws)
+
+-- the bytes of two lists of numbers, one behind the other
+pub bytes-append : (us ws : List ℕ) → bytesOf (us ++ ws) ≡ bytesOf us ++ bytesOf ws
+bytes-append [] ws = refl
+bytes-append (u ∷ us) ws = ap (λ (l : List ℕ). (u / 256) ∷ (u % 256) ∷ l) (bytes-append us ws)
