@@ -12,3 +12,4 @@ pub mod Groups
 pub mod WholeRead
 pub mod DrawingRead
 pub mod Demand2
+pub mod Kept
