@@ -1,8 +1,9 @@
--- A stored drawing is one drawing of the rules, and that one keeps demand 3.
+-- A stored drawing is one drawing of the rules, and that one keeps demand 3 and is exact.
 use mathlib.Core.Path.{_≡_}
 use Rattle.rules.specs.Points.{Drawing as Plan}
 use Rattle.promise.specs.Promise.{Promise}
-use Rattle.exchange.specs.Kept.{reached-keeps}
+use Rattle.promise.specs.Exact.{Exact}
+use Rattle.exchange.specs.Kept.{reached-keeps, reached-exact}
 use Rattle.store_links.specs.declared.Counts.{Counts}
 use Rattle.store_links.specs.Arrays.{Arrays}
 use Rattle.store_laws.specs.Adding.{Holds}
@@ -25,3 +26,7 @@ came-one d c p h = is-one d h (c .is)
 -- And that one keeps demand 3.
 pub came-keeps : (d : Drawing) (c : Came d) → Promise (c .plan)
 came-keeps d c = reached-keeps (c .plan) (c .reached)
+
+-- In it no subtraction of the rules truncates.
+pub came-exact : (d : Drawing) (c : Came d) → Exact (c .plan)
+came-exact d c = reached-exact (c .plan) (c .reached)
