@@ -13,3 +13,4 @@ pub mod WholeRead
 pub mod DrawingRead
 pub mod Demand2
 pub mod Kept
+pub mod Lengths

@@ -1,4 +1,3 @@
 pub mod Pasting
 pub mod Writing
 pub mod Grouping
-pub mod Sizes
