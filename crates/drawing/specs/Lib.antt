@@ -4,3 +4,4 @@ pub mod Places
 pub mod Lines
 pub mod Cuts
 pub mod Adds
+pub mod Held

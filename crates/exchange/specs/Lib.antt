@@ -11,3 +11,5 @@ pub mod Groups
 pub mod WholeRead
 pub mod DrawingRead
 pub mod Demand2
+pub mod Kept
+pub mod Lengths

@@ -1,22 +1,19 @@
--- What the arithmetic of the running calls needs: ranges of the counts, of places and of ports, and that no subtraction of the rules truncates.
--- The laws of steps 3 and 4 (A + B is even, nothing truncates) are in Places; columns in Moved and Columns.
+-- What the arithmetic of the running calls needs: ranges of the counts and of places.
+-- That no subtraction of the rules truncates is in Exact, and for steps 3 and 4 also in Places; columns are in Moved and Columns.
 use Prim.Native.Nat.{ℕ, suc, pred, _+_, _*_, _<_, _≤_}
-use mathlib.Core.Path.{_≡_, ap}
+use mathlib.Core.Path.{_≡_}
 use mathlib.Core.Bool.{Bool}
 use mathlib.Core.List.{List}
 use native.Mathlib.Omega.{arith}
 use lib.ListN.{length}
 use Rattle.rules.specs.declared.Entry.{Entry}
-use Rattle.rules.specs.declared.Bend.the-variants.{Left, Middle}
 use Rattle.rules.specs.Refusals.{good}
-use Rattle.rules.specs.Points.{Drawing, xOf, yOf, dlOf, hOf, m, W, lineAt, start}
+use Rattle.rules.specs.Points.{Drawing, xOf, yOf, m, W, lineAt, start}
 use Rattle.rules.specs.Ports.{bendPlace}
 use Rattle.rules.specs.Adding.{addEntries}
-use Rattle.net.specs.Side.{lf}
 use Rattle.net.specs.Bend.{bend}
 use Rattle.net.specs.Frame.{Inside, point-in, spot-in}
 use Rattle.promise.specs.Promise.{IsLine}
-use Rattle.promise.specs.Nets.{kindOf}
 use Rattle.promise.specs.Sound.{Sound}
 use Rattle.promise.specs.Next.{next}
 use Rattle.promise.specs.Border.{m′}
@@ -85,14 +82,3 @@ module _ (d : Drawing) (t : Standing d) where
   bend-most e el =
       let i : Inside (W d) (bendPlace d (lineAt d e)) = rw (spot-bend (t .sound) e el) at (spot-in (t .sound .inv) (t .sound .border) e el bend) in
       (omega (arith, i .b), i .y)
-
-  -- no subtraction of a left or middle port truncates
-  pub left-exact : (e j : ℕ) → IsLine d e → lineAt d e .bend ≡ Left j → dlOf d (lineAt d e .earlier) + 1 ≤ xOf d (lineAt d e .earlier)
-  left-exact e j el q = let f = t .sound .inv .slopes .slope lf j e el (ap kindOf q) in omega (arith, f .rise, f .run)
-
-  pub middle-exact : (e i : ℕ) → IsLine d e → lineAt d e .bend ≡ Middle i → (hOf d (lineAt d e .later) ≤ yOf d (lineAt d e .later)) × (hOf d (lineAt d e .later) ≤ xOf d (lineAt d e .later))
-  middle-exact e i el q =
-      let f = t .sound .inv .slopes .reach i e el (ap kindOf q) in
-      let b = t .sound .inv .core .points .frame (pred (lineAt d e .later)) (t .sound .inv .core .lines .ends e el .1) in
-      let h : hOf d (lineAt d e .later) ≤ yOf d (lineAt d e .later) = omega (arith, f .to-a, f .to-b) in
-      (h, omega (arith, b))

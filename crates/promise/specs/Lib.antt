@@ -25,5 +25,6 @@ pub mod Sectors
 pub mod Degree
 pub mod Angled
 pub mod Planar
+pub mod Exact
 pub mod Theorem
 pub mod Bounds

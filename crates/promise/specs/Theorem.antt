@@ -7,6 +7,7 @@ use Rattle.rules.specs.Points.{Drawing}
 use Rattle.rules.specs.Calls.{drawn}
 use Rattle.promise.specs.Promise.{Promise}
 use Rattle.promise.specs.Sound.{Sound}
+use Rattle.promise.specs.Exact.{Exact, sound-exact}
 use Rattle.promise.specs.Opening.{sound-start}
 use Rattle.promise.specs.Accepted.{after-keeps}
 use Rattle.promise.specs.Step.{sound-added}
@@ -40,3 +41,7 @@ sound-drawn n calls = after-keeps Sound sound-added _ (sound-start n 1 true true
 -- the theorem
 pub demand-3 : (n : ℕ) → 3 ≤ n → n ≤ 1024 → (calls : List (List ℕ)) → Promise (drawn n calls)
 demand-3 n low high calls = sound-keeps (drawn n calls) (sound-drawn n calls)
+
+-- and in none of these drawings does a subtraction of the rules truncate, nor in a call on one
+pub drawn-exact : (n : ℕ) (calls : List (List ℕ)) → Exact (drawn n calls)
+drawn-exact n calls = sound-exact (drawn n calls) (sound-drawn n calls)

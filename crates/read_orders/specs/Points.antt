@@ -1,4 +1,4 @@
--- The records of the points behind point 3, on the arrays. The arrays may hold a drawing in more ways than one, so each claim is of every drawing that they hold.
+-- The records of the points behind point 3, on the arrays. A contract has the arrays and not the drawing that they hold, so each claim is of every drawing that they hold (there is one at most: `stored-one` of `store_settling`).
 use Prim.Native.Nat.{ℕ, suc, _+_, _*_, _<_, _≤_}
 use mathlib.Core.Path.{_≡_}
 use mathlib.Core.List.{List}

@@ -7,3 +7,4 @@ pub mod Bends
 pub mod Bending
 pub mod Indexes
 pub mod Lines
+pub mod One

@@ -2,7 +2,7 @@
 use mathlib.Core.Path.{_≡_, ap, sym, _∙_}
 use native.Mathlib.Omega.{arith}
 use borrow.Author.Tests.{eq-eqb, ne-eqb}
-use Rattle.write_orders.specs.Sizes.{scaleBytes, order-size}
+use Rattle.exchange.specs.Lengths.{scaleBytes, order-size}
 use borrow.Author.Needs.{needs}
 use Rattle.write_orders.proofs.order_length.Statement.{statement}
 use Rattle.write_orders.proofs.order_length.Tie as tie
