@@ -18,6 +18,7 @@ pub mod Ten
 pub mod Cases
 pub mod Bools
 pub mod Results
+pub mod Numbers
 pub mod Lengths
 pub mod Same
 pub mod RoundTrip

@@ -56,11 +56,18 @@ abbrev pub answer : {A : Type 0} → Result A → Answer
 answer (good a) = Accepted
 answer (refused r p) = Refused r p
 
--- an answer in this paper's numbers: accepted, or "number and place"
-pub data Told : Type 0 where
-  accepted : Told
-  refusedWith : ℕ → ℕ → Told
+-- ---- an answer in this paper's numbers: what is given, or "number and place"
 
-abbrev pub told : Answer → Told
-told Accepted = accepted
-told (Refused r p) = refusedWith (number r) p
+pub data Told (A : Type 0) : Type 0 where
+  gives : A → Told A
+  refusedWith : ℕ → ℕ → Told A
+
+-- what the rules give
+abbrev pub told : {A : Type 0} → Result A → Told A
+told (good a) = gives a
+told (refused r p) = refusedWith (number r) p
+
+-- what an answer without a value says
+abbrev pub toldAnswer : Answer → Told (Unit {0})
+toldAnswer Accepted = gives tt
+toldAnswer (Refused r p) = refusedWith (number r) p

@@ -9,7 +9,7 @@ use Rattle.rules.specs.declared.Place.{Place}
 use Rattle.rules.specs.declared.Bend.the-variants.{Straight}
 use Rattle.rules.specs.declared.Refusal.the-variants.{OutOfRange, OutputShort, NoSuch, Unfinished, BadTool}
 use Rattle.rules.specs.Basics.{keep}
-use Rattle.rules.specs.Refusals.{good, refused, Told, accepted, refusedWith, told}
+use Rattle.rules.specs.Refusals.{good, refused, Told, gives, refusedWith, told, toldAnswer}
 use Rattle.rules.specs.Points.{Drawing, at, placeOf, opening, opened}
 use Rattle.rules.specs.Ports.{bendPlace}
 use Rattle.rules.specs.Adding.{callTests, judge, placedNew, addEntries}
@@ -25,8 +25,8 @@ abbrev pub bendOn : Drawing → ℕ → ℕ → Place
 bendOn d a b = bendPlace d (getD (keep (λ l. eqb (l .later) a && eqb (l .earlier) b) (d .lines)) 0 (record { later = 0; earlier = 0; bend = Straight; cut = true }))
 
 -- the answers in document 01's numbers
-abbrev pub toldOf : ℕ → List (List ℕ) → List Told
-toldOf n calls = map told (said n calls)
+abbrev pub toldOf : ℕ → List (List ℕ) → List (Told (Unit {0}))
+toldOf n calls = map toldAnswer (said n calls)
 
 abbrev pub K2 : Drawing
 K2 = drawn 4 ((1 ∷ 3 ∷ 2 ∷ []) ∷ [])
@@ -50,11 +50,11 @@ pub ten :
     -- K5 n = 4, add 1,3: 9. K6 n = 5, add 1,2: 8 at 1. K7 add 1: 5
     (toldOf 4 ((1 ∷ 3 ∷ []) ∷ []) ≡ refusedWith 9 0 ∷ []) × (toldOf 5 ((1 ∷ 2 ∷ []) ∷ []) ≡ refusedWith 8 1 ∷ []) × (toldOf 5 ((1 ∷ []) ∷ []) ≡ refusedWith 5 0 ∷ []) ×
     -- K8 n = 6, after 1,3,2 add 1,3,2: 7 at 1
-    (toldOf 6 ((1 ∷ 3 ∷ 2 ∷ []) ∷ (1 ∷ 3 ∷ 2 ∷ []) ∷ []) ≡ accepted ∷ refusedWith 7 1 ∷ []) ×
+    (toldOf 6 ((1 ∷ 3 ∷ 2 ∷ []) ∷ (1 ∷ 3 ∷ 2 ∷ []) ∷ []) ≡ gives tt ∷ refusedWith 7 1 ∷ []) ×
     -- K9 n = 1,024 opens; 2 and 1,025 give 3
-    (opened 1024 ≡ good (opening 1024)) × (opened 2 ≡ refused OutOfRange 0) × (opened 1025 ≡ refused OutOfRange 0) ×
+    (opened 1024 ≡ good (opening 1024)) × (told (opened 2) ≡ refusedWith 3 0) × (told (opened 1025) ≡ refusedWith 3 0) ×
     -- K10 adding to a finished drawing: 21
-    (toldOf 4 ((1 ∷ 3 ∷ 2 ∷ []) ∷ (1 ∷ 4 ∷ 2 ∷ []) ∷ []) ≡ accepted ∷ refusedWith 21 0 ∷ [])
+    (toldOf 4 ((1 ∷ 3 ∷ 2 ∷ []) ∷ (1 ∷ 4 ∷ 2 ∷ []) ∷ []) ≡ gives tt ∷ refusedWith 21 0 ∷ [])
 unfolding callTests judge placedNew addEntries
 ten = (refl, refl, refl, refl, refl, refl, refl, refl, refl, refl, refl, refl, refl, refl, refl, refl, refl, refl, refl, refl, refl, refl, refl, refl, refl, refl, refl, refl, refl, refl, refl)
 
