@@ -7,6 +7,7 @@ use native.Mathlib.Omega.{arith}
 use lib.ListN.{length}
 use Rattle.rules.specs.declared.Answer.the-variants.{Accepted, Refused}
 use Rattle.rules.specs.declared.Refusal.the-variants.{OutOfRange, OutputShort}
+use Rattle.rules.specs.Refusals.{toldAnswer}
 use Rattle.rules.specs.Calls.{drawn}
 use Rattle.store_links.specs.declared.Added.{Added}
 use Rattle.store_links.specs.declared.Counts.{Counts}
@@ -50,7 +51,7 @@ module _ {n : ℕ} {ws before t : List ℕ} {r : Added} where
   -- n is out of range.
   pub out-of-range : (3 ≤ n → n ≤ 1024 → ⊥) → (r .answer ≡ Refused OutOfRange 0) × (r .counts ≡ noCounts) → t ≡ zeros → Ran n ws before before (doneIn r t)
   out-of-range h e z =
-      let no : Refuses OutOfRange before before (doneIn r t) = record { answer = e .0; buffer = refl; drawing = nothing r t (e .1) z } in
+      let no : Refuses 3 before before (doneIn r t) = record { answer = ap toldAnswer (e .0); buffer = refl; drawing = nothing r t (e .1) z } in
       record { low = λ l. no; high = λ l. no; short = λ l u s. absurd (h l u); enough = λ l u s. absurd (h l u) }
 
   -- The buffer is too short.
@@ -59,7 +60,7 @@ module _ {n : ℕ} {ws before t : List ℕ} {r : Added} where
       record {
         low = λ l. absurd (omega arith);
         high = λ l. absurd (omega arith);
-        short = λ l u s. record { answer = e .0; buffer = refl; drawing = nothing r t (e .1) z };
+        short = λ l u s. record { answer = ap toldAnswer (e .0); buffer = refl; drawing = nothing r t (e .1) z };
         enough = λ l u s. absurd (omega arith);
       }
 

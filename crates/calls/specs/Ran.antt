@@ -3,9 +3,7 @@ use Prim.Native.Nat.{ℕ, _*_, _<_, _≤_}
 use mathlib.Core.Path.{_≡_}
 use mathlib.Core.List.{List, _++_}
 use lib.ListN.{length, drop}
-use Rattle.rules.specs.declared.Answer.the-variants.{Accepted, Refused}
-use Rattle.rules.specs.declared.Refusal.{Refusal}
-use Rattle.rules.specs.declared.Refusal.the-variants.{OutOfRange, OutputShort}
+use Rattle.rules.specs.Refusals.{gives, refusedWith, toldAnswer}
 use Rattle.rules.specs.Calls.{drawn, said}
 use Rattle.promise.specs.Promise.{Promise}
 use Rattle.store_links.specs.declared.Added.{Added}
@@ -18,23 +16,23 @@ use Rattle.calls.specs.Lists.{callsIn, wordsOf}
 abbrev pub doneIn : Added → List ℕ → Done
 doneIn r t = record { answer = r .answer; drawing = record { counts = r .counts; table = t } }
 
--- refused: no word of the buffer changes
-pub record Refuses (why : Refusal) (before after : List ℕ) (r : Done) : Type 0 where
-  pub answer : r .answer ≡ Refused why 0
+-- refused with this number: no word of the buffer changes
+pub record Refuses (why : ℕ) (before after : List ℕ) (r : Done) : Type 0 where
+  pub answer : toldAnswer (r .answer) ≡ refusedWith why 0
   pub buffer : after ≡ before
   pub drawing : r .drawing ≡ blank
 
 -- accepted: the answers and the drawing are those of the rules, and the drawing keeps the promise
 pub record Accepts (n : ℕ) (ws before after : List ℕ) (r : Done) : Type 0 where
-  pub answer : r .answer ≡ Accepted
+  pub answer : toldAnswer (r .answer) ≡ gives tt
   pub buffer : after ≡ wordsOf (said n (callsIn ws)) ++ drop (2 * length (callsIn ws)) before
   pub drawing : Is (drawn n (callsIn ws)) (r .drawing)
   pub came : Came (r .drawing)
   pub promise : Promise (drawn n (callsIn ws))
 
--- n is tested first, then the buffer: two words a call
+-- n is tested first (3), then the buffer (24): two words a call
 pub record Ran (n : ℕ) (ws before after : List ℕ) (r : Done) : Type 0 where
-  pub low : n < 3 → Refuses OutOfRange before after r
-  pub high : 1024 < n → Refuses OutOfRange before after r
-  pub short : 3 ≤ n → n ≤ 1024 → length before < 2 * length (callsIn ws) → Refuses OutputShort before after r
+  pub low : n < 3 → Refuses 3 before after r
+  pub high : 1024 < n → Refuses 3 before after r
+  pub short : 3 ≤ n → n ≤ 1024 → length before < 2 * length (callsIn ws) → Refuses 24 before after r
   pub enough : 3 ≤ n → n ≤ 1024 → 2 * length (callsIn ws) ≤ length before → Accepts n ws before after r

@@ -8,7 +8,7 @@ use borrow.Author.Tests.{lt-ltb, le-ltb}
 use Rattle.rules.specs.declared.Line.{Line}
 use Rattle.rules.specs.declared.Place.{Place}
 use Rattle.rules.specs.declared.Refusal.the-variants.{BadTool, Unfinished, NoSuch}
-use Rattle.rules.specs.Refusals.{Result, good, refused, _>>_, refuseIf}
+use Rattle.rules.specs.Refusals.{number, Result, good, refused, Told, gives, refusedWith, told, _>>_, refuseIf}
 use Rattle.rules.specs.Points.{Drawing as Plan, placeOf, lineAt}
 use Rattle.rules.specs.Ports.{bendPlace}
 use Rattle.rules.specs.Moves.{Tool as WholeTool, Move as WholeMove, lift, allMoves, moveAt}
@@ -35,12 +35,20 @@ use Rattle.cutter.specs.Cuts.{cutsTo, NthCut, cuts-all, nth-is, nth-ther
 abbrev pub IsMove : Move → WholeMove → Type 0
 IsMove m v = (m ≡ inFloats v) × Shows m v
 
--- the answer is the rules': the same move, or the same refusal at the same place
+-- an answer in document 01's numbers
+abbrev pub toldMove : Moved → Told Move
+toldMove (Moved.Made m) = gives m
+toldMove (Moved.Refused r p) = refusedWith (number r) p
+
+-- what is said is what the rules give: the same move, or the same number and place
+abbrev pub SaysMove : Told Move → Told WholeMove → Type 0
+SaysMove (gives m) (gives v) = IsMove m v
+SaysMove (gives m) (refusedWith n p) = ⊥
+SaysMove (refusedWith n p) (gives v) = ⊥
+SaysMove (refusedWith n p) (refusedWith n′ p′) = (n ≡ n′) × (p ≡ p′)
+
 abbrev pub MoveSeen : Moved → Result WholeMove → Type 0
-MoveSeen (Moved.Made m) (good v) = IsMove m v
-MoveSeen (Moved.Made m) (refused r p) = ⊥
-MoveSeen (Moved.Refused r p) (good v) = ⊥
-MoveSeen (Moved.Refused r p) (refused r′ p′) = (r ≡ r′) × (p ≡ p′)
+MoveSeen r o = SaysMove (toldMove r) (told o)
 
 -- how many moves a finished drawing has
 abbrev pub moveCount : Plan → WholeTool → Result ℕ
@@ -48,9 +56,9 @@ moveCount q t = do
   refuseIf (ltb (q .k) (q .n)) Unfinished 0
   good (length (allMoves q t))
 
-abbrev pub countSeen : Result ℕ → Counted
-countSeen (good n) = Counted.Moves n
-countSeen (refused r p) = Counted.Refused r p
+abbrev pub toldCount : Counted → Told ℕ
+toldCount (Counted.Moves n) = gives n
+toldCount (Counted.Refused r p) = refusedWith (number r) p
 
 -- A move of a line from these places is the move of the drawing's line that has them.
 pub line-moved : (q : Plan) (n : Numbers) (l : Line) {s : ℕ} {a b e : Place} (i : ℕ) (m : Move) →
@@ -98,8 +106,8 @@ module _ {q : Plan} {a : Arrays} {c : Counts} (h : Holds q a c) where
 
   -- The count.
   module _ (t : WholeTool) where
-    pub count-early : c .k < c .n → Counted.Refused Unfinished 0 ≡ countSeen (moveCount q t)
+    pub count-early : c .k < c .n → toldCount (Counted.Refused Unfinished 0) ≡ told (moveCount q t)
     count-early b = rw (lt-ltb (q .k) (q .n) (omega (arith, h .stores .k, h .stores .n)))
 
-    pub count-made : c .n ≤ c .k → Counted.Moves (5 * cutsTo (a .words) (c .lines)) ≡ countSeen (moveCount q t)
+    pub count-made : c .n ≤ c .k → toldCount (Counted.Moves (5 * cutsTo (a .words) (c .lines))) ≡ told (moveCount q t)
     count-made b = rw (le-ltb (q .k) (q .n) (omega (arith, h .stores .k, h .stores .n)), five-each q t (q .lines), cuts-all h)

@@ -16,6 +16,7 @@ use tool::Tool;
 ghost use mathlib.Core.Path.{_≡_};
 ghost use Prim.Native.Nat.{_<_, _≤_};
 ghost use lib.ListN.{getD};
+ghost use Rattle.rules.specs.Refusals.{told};
 ghost use Rattle.rules.specs.Entries.{entryOf};
 ghost use Rattle.rules.specs.Points.{Drawing as Plan, placeOf, lineAt};
 ghost use Rattle.rules.specs.Moves.{Tool as WholeTool, lift, moveAt};
@@ -26,7 +27,7 @@ ghost use Rattle.drawing.specs.View.{Is, Came};
 ghost use Rattle.drawing.specs.Places.{PlacedIn, IsPlaced};
 ghost use Rattle.cutter.specs.Numbering.{fiveOf};
 ghost use Rattle.cutter.specs.Cuts.{NthCut, cutsTo};
-ghost use Rattle.cutter.specs.Seen.{IsMove, MoveSeen, moveCount, countSeen};
+ghost use Rattle.cutter.specs.Seen.{IsMove, MoveSeen, toldCount, moveCount};
 
 // What asking for a move answers.
 pub enum Moved {
@@ -138,7 +139,7 @@ pub fn move_at(v: Placed, t: Tool, number: usize) -> Moved
 // How many moves a finished drawing has, whatever the tool: five for each cut line.
 pub fn move_count(d: Drawing) -> Counted
     requires { ⌜ Came d ⌝ }
-    ensures { λ r. ⌜ ((q : Plan) (t : WholeTool) → Is q d → r ≡ countSeen (moveCount q t)) ⌝ }
+    ensures { λ r. ⌜ ((q : Plan) (t : WholeTool) → Is q d → toldCount r ≡ told (moveCount q t)) ⌝ }
 {
     let c = d.counts;
     if c.k < c.n {

@@ -9,6 +9,7 @@ use borrow.Author.Tests.{eq-eqb, ne-eqb}
 use Rattle.rules.specs.declared.Entry.{Entry}
 use Rattle.rules.specs.declared.Refusal.the-variants.{NoSuch}
 use Rattle.rules.specs.Basics.{between}
+use Rattle.rules.specs.Bools.{both}
 use Rattle.rules.specs.Entries.{entryOf}
 use Rattle.rules.specs.Points.{Drawing as Plan, lineAt}
 use Rattle.rules.specs.Demand.{endsAt}
@@ -17,8 +18,7 @@ use Rattle.store_links.specs.declared.Counts.{Counts}
 use Rattle.store_links.specs.Arrays.{Arrays}
 use Rattle.store_laws.specs.Adding.{Holds}
 use Rattle.drawing.specs.declared.CutSeen.the-variants as Cut
-use Rattle.rules.specs.Bools.{both}
-use Rattle.drawing.specs.View.{sought}
+use Rattle.drawing.specs.View.{toldCut}
 
 -- a line with this entry and this later point is cut and ends at p
 abbrev pub cutTo : Entry → ℕ → ℕ → Bool
@@ -58,14 +58,14 @@ module _ {q : Plan} {a : Arrays} {c : Counts} (h : Holds q a c) (p : ℕ) where
     point-there = rw (h .stores .k) at is
 
     -- A line that was found is one.
-    pub finds : r < c .lines → LooksCut q p (sought (Cut.Line r))
+    pub finds : r < c .lines → LooksCut q p (toldCut (Cut.Line r))
     finds b =
         let el : r < length (q .lines) = omega (arith, h .stores .lines) in
         let t = both (lineAt q r .cut) (endsAt p (lineAt q r)) (sym (cut-is r el) ∙ f .found b) in
         (point-there, record { there = el; isCut = t .0; ends = t .1 })
 
     -- Where none was found there is none.
-    pub finds-none : c .lines ≤ r → LooksCut q p (sought Cut.Nothing)
+    pub finds-none : c .lines ≤ r → LooksCut q p (toldCut Cut.Nothing)
     finds-none b = (point-there, λ e t. none e t)
       where
         none : (e : ℕ) → CutLineAt q p e → ⊥
@@ -76,5 +76,5 @@ module _ {q : Plan} {a : Arrays} {c : Counts} (h : Holds q a c) (p : ℕ) where
             omega arith
 
   -- No such point.
-  pub no-point-cut : between 1 (c .k) p ≡ false → LooksCut q p (sought (Cut.Refused NoSuch 0))
+  pub no-point-cut : between 1 (c .k) p ≡ false → LooksCut q p (toldCut (Cut.Refused NoSuch 0))
   no-point-cut b = (rw (h .stores .k) at b, refl, refl)

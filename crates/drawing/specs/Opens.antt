@@ -1,13 +1,13 @@
 -- What opening gives: the drawing as opened, or, refused, a drawing of zeros.
 use Prim.Native.Nat.{ℕ, _<_, _≤_}
-use mathlib.Core.Path.{_≡_, refl}
+use mathlib.Core.Path.{_≡_, refl, sym, ap, _∙_}
 use mathlib.Core.Bool.{true, false}
-use native.Mathlib.Omega.{arith}
 use borrow.Author.Tests.{le-leb, lt-leb}
 use Rattle.rules.specs.declared.Answer.the-variants.{Accepted, Refused}
 use Rattle.rules.specs.declared.Refusal.the-variants.{OutOfRange}
 use Rattle.rules.specs.Basics.{between}
-use Rattle.rules.specs.Refusals.{Result, good, refused, answer}
+use Rattle.rules.specs.Refusals.{Result, good, refused, told, toldAnswer, _>>_}
+use Rattle.rules.specs.Numbers.{never-gives}
 use Rattle.rules.specs.Points.{Drawing as Plan, opening, opened}
 use Rattle.store_links.specs.Opening.{openArrays, openCounts, noCounts}
 use Rattle.store_tables.specs.Tables.{arraysIn}
@@ -28,18 +28,18 @@ abbrev pub DrawingOf : Result Plan → Drawing → Type 0
 DrawingOf (good p) d = Is p d × Came d
 DrawingOf (refused r p) d = d ≡ blank
 
--- r is what the rules give
+-- r says what the rules give, in document 01's numbers, and has the drawing that goes with it
 pub record Gives (o : Result Plan) (r : Done) : Type 0 where
-  pub answer : r .answer ≡ answer o
+  pub answer : toldAnswer (r .answer) ≡ told (o >> good tt)
   pub drawing : DrawingOf o (r .drawing)
 
 -- What was accepted came so.
 pub came-given : {o : Result Plan} {r : Done} → Gives o r → r .answer ≡ Accepted → Came (r .drawing)
 came-given {o} {r} g e = go o (g .answer) (g .drawing)
   where
-    go : (o : Result Plan) → r .answer ≡ answer o → DrawingOf o (r .drawing) → Came (r .drawing)
+    go : (o : Result Plan) → toldAnswer (r .answer) ≡ told (o >> good tt) → DrawingOf o (r .drawing) → Came (r .drawing)
     go (good p) a d = d .1
-    go (refused f p) a d = absurd (let z : _≡_ {A = ℕ} 0 1 = cc in omega arith)
+    go (refused f p) a d = absurd (never-gives (sym a ∙ ap toldAnswer e))
 
 abbrev pub Opens : ℕ → Done → Type 0
 Opens n r = Gives (opened n) r

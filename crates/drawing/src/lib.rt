@@ -15,6 +15,7 @@ use store_tables::YS;
 ghost use mathlib.Core.Path.{_≡_};
 ghost use Prim.Native.Nat.{_<_, _≤_};
 ghost use Rattle.rules.specs.Basics.{between};
+ghost use Rattle.rules.specs.Refusals.{told};
 ghost use Rattle.rules.specs.Entries.{entryOf};
 ghost use Rattle.rules.specs.Points.{Drawing as Plan};
 ghost use Rattle.rules.specs.Lookups.{lookPoint, lookLine, LooksCut};
@@ -22,7 +23,7 @@ ghost use Rattle.store_links.specs.Opening.{noPoints};
 ghost use Rattle.store_laws.specs.Adding.{Holds};
 ghost use Rattle.store_tables.specs.Tables.{arraysIn};
 ghost use Rattle.store_settling.specs.Placed.{Settleable, Settled};
-ghost use Rattle.drawing.specs.View.{Is, Came, pointSeen, lineSeen, sought};
+ghost use Rattle.drawing.specs.View.{Is, Came, pointSeen, lineSeen, toldPoint, toldLine, toldCut};
 ghost use Rattle.drawing.specs.Opens.{blank, OpenFor, Opens};
 ghost use Rattle.drawing.specs.Cuts.{cutTo, FirstCut};
 ghost use Rattle.drawing.specs.Adds.{AddsTo};
@@ -157,7 +158,7 @@ pub fn look_point(table: &Table, x: &[u16; POINTS], c: Counts, p: usize) -> Poin
 // A point's place.
 pub fn point_at(v: Placed, p: usize) -> PointSeen
     requires { ⌜ IsPlaced v ⌝ }
-    ensures { λ r. ⌜ ((q : Plan) → Is q (v .drawing) → r ≡ pointSeen (lookPoint q p)) ⌝ }
+    ensures { λ r. ⌜ ((q : Plan) → Is q (v .drawing) → toldPoint r ≡ told (lookPoint q p)) ⌝ }
 {
     let d = v.drawing;
     look_point(&d.table, &v.x, d.counts, p)
@@ -166,7 +167,7 @@ pub fn point_at(v: Placed, p: usize) -> PointSeen
 // The same, where one look-up is enough.
 pub fn point(d: Drawing, p: usize) -> PointSeen
     requires { ⌜ Came d ⌝ }
-    ensures { λ r. ⌜ ((q : Plan) → Is q d → r ≡ pointSeen (lookPoint q p)) ⌝ }
+    ensures { λ r. ⌜ ((q : Plan) → Is q d → toldPoint r ≡ told (lookPoint q p)) ⌝ }
 {
     point_at(settle(d), p)
 }
@@ -190,7 +191,7 @@ pub fn look_line(table: &Table, x: &[u16; POINTS], c: Counts, e: usize) -> LineS
 // A line with its ends, bend and cut flag, and where its bend lies.
 pub fn line_at(v: Placed, e: usize) -> LineSeen
     requires { ⌜ IsPlaced v ⌝ }
-    ensures { λ r. ⌜ ((q : Plan) → Is q (v .drawing) → r ≡ lineSeen (lookLine q e)) ⌝ }
+    ensures { λ r. ⌜ ((q : Plan) → Is q (v .drawing) → toldLine r ≡ told (lookLine q e)) ⌝ }
 {
     let d = v.drawing;
     look_line(&d.table, &v.x, d.counts, e)
@@ -199,7 +200,7 @@ pub fn line_at(v: Placed, e: usize) -> LineSeen
 // The same, where one look-up is enough.
 pub fn line(d: Drawing, e: usize) -> LineSeen
     requires { ⌜ Came d ⌝ }
-    ensures { λ r. ⌜ ((q : Plan) → Is q d → r ≡ lineSeen (lookLine q e)) ⌝ }
+    ensures { λ r. ⌜ ((q : Plan) → Is q d → toldLine r ≡ told (lookLine q e)) ⌝ }
 {
     line_at(settle(d), e)
 }
@@ -230,7 +231,7 @@ fn first_cut(table: &Table, lines: usize, p: usize) -> usize
 // Some cut line that ends at p, or that there is none, from a lent table.
 pub fn look_cut(table: &Table, c: Counts, p: usize) -> CutSeen
     requires { ⌜ Came (record { counts = c; table = now table }) ⌝ }
-    ensures { λ r. ⌜ ((q : Plan) → Holds q (arraysIn (now (table .entry))) c → LooksCut q p (sought r)) ⌝ }
+    ensures { λ r. ⌜ ((q : Plan) → Holds q (arraysIn (now (table .entry))) c → LooksCut q p (toldCut r)) ⌝ }
 {
     if !is_point(c.k, p) {
         return CutSeen::Refused(Refusal::NoSuch, 0);
@@ -246,7 +247,7 @@ pub fn look_cut(table: &Table, c: Counts, p: usize) -> CutSeen
 // Some cut line that ends at p, or that there is none.
 pub fn cut_line(d: Drawing, p: usize) -> CutSeen
     requires { ⌜ Came d ⌝ }
-    ensures { λ r. ⌜ ((q : Plan) → Is q d → LooksCut q p (sought r)) ⌝ }
+    ensures { λ r. ⌜ ((q : Plan) → Is q d → LooksCut q p (toldCut r)) ⌝ }
 {
     look_cut(&d.table, d.counts, p)
 }

@@ -7,8 +7,8 @@ use lib.Dec.{ltb}
 use borrow.Author.Tests.{lt-ltb, le-ltb}
 use Rattle.rules.specs.declared.Refusal.{Refusal}
 use Rattle.rules.specs.declared.Refusal.the-variants.{OutputShort, Unfinished}
-use Rattle.rules.specs.Refusals.{Result, good, refused, _>>_, refuseIf}
-use Rattle.rules.specs.Output.{fitted, filled}
+use Rattle.rules.specs.Refusals.{number, Result, good, refused, Told, gives, refusedWith, told, _>>_, refuseIf}
+use Rattle.rules.specs.Output.{fitted, counted, filled}
 use Rattle.rules.specs.Points.{Drawing as Plan}
 use Rattle.rules.specs.OrderFile.{writeOrder}
 use Rattle.store_links.specs.declared.Counts.{Counts}
@@ -19,13 +19,13 @@ use Rattle.panel.specs.declared.Written.{Written}
 use Rattle.panel.specs.declared.Written.the-variants.{Bytes, Refused}
 
 -- the number of bytes written, or number and place
-abbrev pub written : Result (List ℕ) → Written
-written (good bytes) = Bytes (length bytes)
-written (refused r p) = Refused r p
+abbrev pub toldWritten : Written → Told ℕ
+toldWritten (Bytes n) = gives n
+toldWritten (Refused r p) = refusedWith (number r) p
 
 -- `wanted` was to be written into a buffer: 24 where it is too short; a refusal changes no byte, and bytes past the written ones stay
 pub record Wrote (before : List ℕ) (wanted : Result (List ℕ)) (after : List ℕ) (r : Written) : Type 0 where
-  pub answer : r ≡ written (fitted before wanted)
+  pub answer : toldWritten r ≡ told (counted (fitted before wanted))
   pub bytes : after ≡ filled before (fitted before wanted)
 
 -- the order file of a drawing: 22 while k < n

@@ -1,10 +1,11 @@
 -- What the order reader's answer says of the drawing of the rules, by value.
 use Prim.Native.Nat.{ℕ}
-use mathlib.Core.Path.{_≡_}
+use mathlib.Core.Path.{_≡_, ap, _∙_}
 use mathlib.Core.List.{List}
 use Rattle.rules.specs.declared.Answer.the-variants.{Accepted, Refused}
 use Rattle.rules.specs.declared.Refusal.{Refusal}
-use Rattle.rules.specs.Refusals.{good}
+use Rattle.rules.specs.Refusals.{good, toldAnswer}
+use Rattle.rules.specs.Numbers.{answer-told}
 use Rattle.rules.specs.Points.{Drawing as Plan}
 use Rattle.rules.specs.OrderFile.{readOrder}
 use Rattle.rules.specs.DrawingFile.{drawingBytes, drawFile}
@@ -31,11 +32,11 @@ module _ (f : List ℕ) {a : Arrays} {v : Added} (g : Gave (readOrder f) a v) wh
       let o = accepted (readOrder f) (cc (g .answers)) in
       let w = whole-read f (o .value) (o .is) in
       let i : Is (o .value) d = rw (e, n) (g .holds (o .value) (o .is)) in
-      record { answer = g .answers; drawing = rw (o .is) (i, record { plan = o .value; reached = w .reached; is = i }) }
+      record { answer = ap toldAnswer (g .answers) ∙ answer-told (readOrder f); drawing = rw (o .is) (i, record { plan = o .value; reached = w .reached; is = i }) }
 
   -- a refused one none.
   pub withheld : {d : Drawing} (r : Refusal) (p : ℕ) → v .answer ≡ Refused r p → d ≡ blank → Gives (readOrder f) (record { answer = v .answer; drawing = d })
-  withheld r p h e = let k = refusing (readOrder f) r p (cc (g .answers)) in record { answer = g .answers; drawing = rw k e }
+  withheld r p h e = let k = refusing (readOrder f) r p (cc (g .answers)) in record { answer = ap toldAnswer (g .answers) ∙ answer-told (readOrder f); drawing = rw k e }
 
   -- An accepted order file leaves a whole drawing in the arrays, and its file is the file drawn.
   pub ended : v .answer ≡ Accepted → Ended a (v .counts)

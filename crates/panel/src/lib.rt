@@ -13,7 +13,8 @@ ghost use mathlib.Core.Path.{_≡_};
 ghost use Rattle.rules.specs.Refusals.{good, answer};
 ghost use Rattle.rules.specs.Points.{Drawing as Plan};
 ghost use Rattle.rules.specs.OrderFile.{readOrder, writeOrder};
-ghost use Rattle.rules.specs.DrawingFile.{drawingBytes, writeDrawing, drawFile, orderBack, compareBytes};
+ghost use Rattle.rules.specs.DrawingFile.{drawingBytes, writeDrawing, drawFile, readDrawing, orderBack, compareBytes};
+ghost use Rattle.promise.specs.Promise.{Promise};
 ghost use Rattle.store_tables.specs.Tables.{arraysIn};
 ghost use Rattle.store_laws.specs.Adding.{Holds};
 ghost use Rattle.exchange.specs.Built.{Reached, Whole};
@@ -54,9 +55,10 @@ fn put_order(out: &mut [u8], table: &Table, c: Counts) -> Written
     Written::Bytes(write_orders::write_order(out, table, c))
 }
 
-// The drawing of an order file, by value; with a refusal goes a drawing of zeros.
+// The drawing of an order file, by value, which keeps demand 3; with a refusal goes a drawing of zeros.
 pub fn drawing_of(order: &[u8]) -> Done
-    ensures { λ r. ⌜ Gives (readOrder (now (order .entry))) r ⌝ }
+    ensures given { λ r. ⌜ Gives (readOrder (now (order .entry))) r ⌝ }
+    ensures keeps { λ _. ⌜ ((d : Plan) → readOrder (now (order .entry)) ≡ good d → Promise d) ⌝ }
 {
     let mut table = [0u16; END];
     let read = read_orders::read_order(order, &mut table);
@@ -103,9 +105,10 @@ pub fn order_file(d: Drawing, out: &mut [u8]) -> Written
     put_order(out, &d.table, numbers)
 }
 
-// Draws an order file: its drawing file, or the refusal of document 01.
+// Draws an order file: the drawing file of its drawing, which keeps demand 3, or the refusal of document 01.
 pub fn draw(order: &[u8], out: &mut [u8]) -> Written
-    ensures { λ r. ⌜ Wrote (now (out .entry)) (drawFile (now (order .entry))) (now (out .exit)) r ⌝ }
+    ensures wrote { λ r. ⌜ Wrote (now (out .entry)) (drawFile (now (order .entry))) (now (out .exit)) r ⌝ }
+    ensures keeps { λ _. ⌜ ((d : Plan) → readOrder (now (order .entry)) ≡ good d → Promise d) ⌝ }
 {
     let mut table = [0u16; END];
     let given = read_orders::read_order(order, &mut table);
@@ -128,9 +131,10 @@ fn compare_drawing(file: &[u8], table: &Table, c: Counts) -> Answer
     read_comparing::compare(file, &drawn[..need])
 }
 
-// Reads a drawing file and gives its order file back, or the refusal of document 01.
+// Reads a drawing file, whose drawing keeps demand 3, and gives its order file back, or the refusal of document 01.
 pub fn undraw(file: &[u8], out: &mut [u8]) -> Written
-    ensures { λ r. ⌜ Wrote (now (out .entry)) (orderBack (now (file .entry))) (now (out .exit)) r ⌝ }
+    ensures wrote { λ r. ⌜ Wrote (now (out .entry)) (orderBack (now (file .entry))) (now (out .exit)) r ⌝ }
+    ensures keeps { λ _. ⌜ ((d : Plan) → readDrawing (now (file .entry)) ≡ good d → Promise d) ⌝ }
 {
     let mut table = [0u16; END];
     let read = read_drawings::read_lines(file, &mut table);

@@ -8,7 +8,7 @@ use Rattle.rules.specs.declared.Line.{Line}
 use Rattle.rules.specs.declared.Place.{Place}
 use Rattle.rules.specs.declared.Refusal.the-variants.{NoSuch}
 use Rattle.rules.specs.Basics.{between}
-use Rattle.rules.specs.Refusals.{Result, good, refused, _>>_, refuseIf}
+use Rattle.rules.specs.Refusals.{Result, good, Told, gives, refusedWith, _>>_, refuseIf}
 use Rattle.rules.specs.Points.{Drawing, placeOf, lineAt}
 use Rattle.rules.specs.Ports.{bendPlace}
 use Rattle.rules.specs.Demand.{endsAt}
@@ -46,6 +46,6 @@ IsSought d p (cutLine e) = CutLineAt d p e
 IsSought d p noCutLine = (e : ℕ) → CutLineAt d p e → ⊥
 
 -- the only answer that document 01 leaves open, by its properties
-abbrev pub LooksCut : Drawing → ℕ → Result Sought → Type 0
-LooksCut d p (good f) = (between 1 (d .k) p ≡ true) × IsSought d p f
-LooksCut d p (refused r q) = (between 1 (d .k) p ≡ false) × (r ≡ NoSuch) × (q ≡ 0)
+abbrev pub LooksCut : Drawing → ℕ → Told Sought → Type 0
+LooksCut d p (gives f) = (between 1 (d .k) p ≡ true) × IsSought d p f
+LooksCut d p (refusedWith r place) = (between 1 (d .k) p ≡ false) × (r ≡ 23) × (place ≡ 0)

@@ -14,6 +14,12 @@ fitted buffer wanted = do
   refuseIf (ltb (length buffer) (length bytes)) OutputShort 0
   good bytes
 
+-- how many bytes that is
+abbrev pub counted : Result (List ℕ) → Result ℕ
+counted wanted = do
+  bytes ← wanted
+  good (length bytes)
+
 -- what the buffer holds afterwards
 abbrev pub filled : List ℕ → Result (List ℕ) → List ℕ
 filled buffer (good bytes) = bytes ++ drop (length bytes) buffer

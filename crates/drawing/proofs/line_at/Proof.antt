@@ -1,4 +1,7 @@
 -- `line_at` meets its contract: the look-up on the lent table is its own.
+use mathlib.Core.Path.{ap, _∙_}
+use Rattle.rules.specs.Lookups.{lookLine}
+use Rattle.drawing.specs.View.{toldLine, line-told}
 use borrow.Author.Needs.{needs}
 use Rattle.drawing.proofs.line_at.Statement.{statement}
 use Rattle.drawing.proofs.line_at.Tie as tie
@@ -7,7 +10,7 @@ look-line-requires : tie.Need-look-line-requires
 look-line-requires c κs = search needs
 
 returns : tie.Need-returns
-returns c = search needs
+returns c = λ q h. ap toldLine (c .look-line .ensures q h) ∙ line-told (lookLine q (c .before .before .before .before .before .before .before .args .e))
 
 pub line-at-spec : {M : Type 1} → statement M
 line-at-spec = tie.close (tie.spec look-line-requires returns)

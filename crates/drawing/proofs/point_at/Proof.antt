@@ -1,4 +1,7 @@
 -- `point_at` meets its contract: the look-up on the lent table is its own.
+use mathlib.Core.Path.{ap, _∙_}
+use Rattle.rules.specs.Lookups.{lookPoint}
+use Rattle.drawing.specs.View.{toldPoint, point-told}
 use borrow.Author.Needs.{needs}
 use Rattle.drawing.proofs.point_at.Statement.{statement}
 use Rattle.drawing.proofs.point_at.Tie as tie
@@ -7,7 +10,7 @@ look-point-requires : tie.Need-look-point-requires
 look-point-requires c κs = search needs
 
 returns : tie.Need-returns
-returns c = search needs
+returns c = λ q h. ap toldPoint (c .look-point .ensures q h) ∙ point-told (lookPoint q (c .before .before .before .before .before .before .before .args .p))
 
 pub point-at-spec : {M : Type 1} → statement M
 point-at-spec = tie.close (tie.spec look-point-requires returns)

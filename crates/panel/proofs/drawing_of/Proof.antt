@@ -1,5 +1,6 @@
 -- `panel::drawing_of` meets its contract: what the order reader gave, by value.
 use mathlib.Core.Path.{refl}
+use Rattle.exchange.specs.Kept.{read-keeps}
 use Rattle.panel.specs.Reading.{given, withheld}
 use borrow.Author.Needs.{needs}
 use Rattle.panel.proofs.drawing_of.Statement.{statement}
@@ -18,10 +19,10 @@ no-drawing-requires : tie.Need-no-drawing-requires
 no-drawing-requires c κs = search needs
 
 returns : tie.Need-returns
-returns c = withheld _ (c .before .before .before .before .read-order .ensures) _ _ (c .before .enum-told2 .given .1) (c .no-drawing .ensures)
+returns c = (withheld _ (c .before .before .before .before .read-order .ensures) _ _ (c .before .enum-told2 .given .1) (c .no-drawing .ensures), read-keeps _)
 
 returns-2 : tie.Need-returns-2
-returns-2 c = given _ (c .before .before .before .read-order .ensures) refl refl (c .enum-told .given .1)
+returns-2 c = (given _ (c .before .before .before .read-order .ensures) refl refl (c .enum-told .given .1), read-keeps _)
 
 pub drawing-of-spec : {M : Type 1} → statement M
 drawing-of-spec =

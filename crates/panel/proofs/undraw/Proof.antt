@@ -2,6 +2,7 @@
 use mathlib.Core.Path.{sym, _∙_}
 use borrow.Author.Needs.{needs}
 use Rattle.panel.specs.Outputs.{turned}
+use Rattle.exchange.specs.Kept.{drawing-read-keeps}
 use Rattle.panel.specs.Undrawing.{lines-ended, lines-refused, bytes-differ, bytes-same}
 use Rattle.panel.proofs.undraw.Statement.{statement}
 use Rattle.panel.proofs.undraw.Tie as tie
@@ -39,7 +40,7 @@ put-order-requires c κs =
 
 returns : tie.Need-returns
 returns c =
-    rw (lines-refused _ (c .before .before .before .before .read-lines .ensures) _ _ (c .before .answer .given .1)) (turned _ _ _)
+    (rw (lines-refused _ (c .before .before .before .before .read-lines .ensures) _ _ (c .before .answer .given .1)) (turned _ _ _), drawing-read-keeps _)
 
 returns-2 : tie.Need-returns-2
 unfolding told
@@ -49,7 +50,7 @@ returns-2 c =
     let g = t .before .before .before .read-lines .ensures in
     let h = t .enum-told .given .1 in
     let e = lines-ended _ g h in
-    rw (bytes-differ _ g h _ _ (sym (b .compare-drawing .ensures (e .d) (e .whole) (e .holds)) ∙ c .before .same .given .1)) (turned _ _ _)
+    (rw (bytes-differ _ g h _ _ (sym (b .compare-drawing .ensures (e .d) (e .whole) (e .holds)) ∙ c .before .same .given .1)) (turned _ _ _), drawing-read-keeps _)
 
 same-length : tie.Need-same-length
 same-length c = search needs
@@ -64,7 +65,7 @@ returns-3 c =
     let g = t .before .before .before .read-lines .ensures in
     let h = t .enum-told .given .1 in
     let e = lines-ended _ g h in
-    rw (bytes-same _ g h (sym (b .compare-drawing .ensures (e .d) (e .whole) (e .holds)) ∙ q .enum-told2 .given .1)) (p .put-order .ensures (e .d) (e .whole) (e .holds))
+    (rw (bytes-same _ g h (sym (b .compare-drawing .ensures (e .d) (e .whole) (e .holds)) ∙ q .enum-told2 .given .1)) (p .put-order .ensures (e .d) (e .whole) (e .holds)), drawing-read-keeps _)
 
 pub undraw-spec : {M : Type 1} → statement M
 undraw-spec =
