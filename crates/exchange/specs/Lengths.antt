@@ -21,7 +21,7 @@ use Rattle.rules.specs.OrderFile.{Scaled, givenScale, readScale, entriesIn, sta
 use Rattle.rules.specs.DrawingFile.{drawingBytes, drawingLength, longestDrawing, writeDrawing, drawFile, readDrawing, orderBack}
 use Rattle.rules.specs.Bools.{in-range}
 use Rattle.rules.specs.Results.{same-value, bound, followed, tested, test-false, placed-good}
-use Rattle.rules.specs.Lengths.{length-points}
+use Rattle.rules.specs.Lengths.{length-points, length-words}
 use Rattle.promise.specs.Lined.{length-lines}
 use Rattle.exchange.specs.Built.{Whole}
 use Rattle.exchange.specs.Entries.{lengthened}
@@ -32,13 +32,6 @@ use Rattle.exchange.specs.DrawingRead.{sizes, drawing-read, length-drawi
 use Rattle.exchange.specs.Demand2.{drawn-as, undraw-draw}
 
 -- ---- a record that is read
-
--- c numbers, taken from the front of enough bytes, are c
-length-words : (c : ℕ) (bs : List ℕ) → 2 * c ≤ length bs → length (wordsIn c bs) ≡ c
-length-words zero bs b = refl
-length-words (suc c) [] b = absurd (omega arith)
-length-words (suc c) (x ∷ []) b = absurd (omega arith)
-length-words (suc c) (x ∷ y ∷ bs) b = ap suc (length-words c bs (omega arith))
 
 -- numbers that were read at a cursor: how many, and how many bytes before what follows them
 record Took (count bytes : ℕ) (at : Cursor) (f : Found) : Type 0 where

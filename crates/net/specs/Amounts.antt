@@ -91,10 +91,11 @@ pub record Amounts (τ : Tie) (g g′ : Net) (l r s₁ s₂ : ℕ) : Type 0 wher
   pub new-b : g′ .x (g .k) + g′ .y (g .k) + off τ ≡ g′ .x (g .w r) + g .y (g .w r)
 
 module _ {τ : Tie} {g g′ : Net} {l r s₁ s₂ : ℕ} (h : Points τ g) (a : Amounts τ g g′ l r s₁ s₂) where
-  x-on : (i : ℕ) → i < g .m → g′ .x (g .w i) ≡ g .x (g .w i) + moves l r s₁ s₂ i
+  -- where a boundary point of g stands in g′
+  pub x-on : (i : ℕ) → i < g .m → g′ .x (g .w i) ≡ g .x (g .w i) + moves l r s₁ s₂ i
   x-on i im = let o = h .on i im in omega (arith, a .x′ (g .w i) (o .0), ap (moves l r s₁ s₂) (o .1))
 
-  y-on : (i : ℕ) → i < g .m → g′ .y (g .w i) ≡ g .y (g .w i)
+  pub y-on : (i : ℕ) → i < g .m → g′ .y (g .w i) ≡ g .y (g .w i)
   y-on i im = a .y′ (g .w i) (h .on i im .0)
 
   pub places-of : Places τ g g′ l r

@@ -1,6 +1,6 @@
--- Columns are what owners make them: from a point, owner by owner, one comes to the boundary point of its column.
-use Prim.Native.Nat.{ℕ, zero, suc, _+_, _<_, _≤_}
-use mathlib.Core.Path.{_≡_, refl, sym, ap, _∙_}
+-- Adding a point keeps what is known of owners: an owner is a later point of the same column.
+use Prim.Native.Nat.{ℕ, _<_}
+use mathlib.Core.Path.{_≡_, sym, ap, _∙_}
 use mathlib.Core.Logic.{_≢_}
 use native.Mathlib.Omega.{arith}
 use native.Mathlib.Decide.{decLe, ℕ-discrete}
@@ -9,30 +9,6 @@ use Rattle.net.specs.Net.{Net}
 use Rattle.net.specs.Inv.{Points, Owners}
 use Rattle.net.specs.Adds.{join, Adds, Owning}
 use Rattle.net.specs.Walls.{by-point, w-low, w-new, w-high}
-
--- q is p, or owns it by a chain of owners
-pub data Chain (g : Net) (q : ℕ) : ℕ → Type 0 where
-  here : Chain g q q
-  next : {p : ℕ} → p ≢ g .w (g .col p) → Chain g q (g .own p) → Chain g q p
-
-module _ {τ : Tie} {g : Net} (h : Points τ g) (o : Owners g) where
-  climb : (n p : ℕ) → p < g .k → g .k ≤ p + n → Chain g (g .w (g .col p)) p
-  climb zero p pk b = absurd (omega arith)
-  climb (suc n) p pk b =
-      elim (ℕ-discrete p (g .w (g .col p))) [
-        | yes e ↦ rw (sym e) here
-        | no d ↦
-            let t = o .owned p pk d in
-            next d (rw (t .2) at (climb n (g .own p) (t .1) (omega arith)))
-      ]
-
-  pub root : (p : ℕ) → p < g .k → Chain g (g .w (g .col p)) p
-  root p pk = climb (g .k) p pk (omega arith)
-
-  -- and to no other boundary point
-  pub alone : (p q : ℕ) → p < g .k → Chain g q p → g .col q ≡ g .col p
-  alone p q pk here = refl
-  alone p q pk (next d c) = let t = o .owned p pk d in alone (g .own p) q (t .1) c ∙ t .2
 
 module _ {τ : Tie} {g g′ : Net} {l r : ℕ} (h : Points τ g) (a : Adds τ g g′ l r) (s : Owning g g′ l r) where
   owned′ : Owners g → (p : ℕ) → p < g .k → p ≢ g′ .w (g′ .col p) → (p < g′ .own p) × (g′ .own p < g′ .k) × (g′ .col (g′ .own p) ≡ g′ .col p)

@@ -15,7 +15,7 @@ use Rattle.net.specs.Side.{strict}
 use Rattle.net.specs.Net.{Net}
 use Rattle.net.specs.Inv.{Points, Reach, Inv}
 use Rattle.net.specs.Walls.{chain}
-use Rattle.net.specs.Amounts.{Amounts, moves, moves-r, Shift, none, some, all, shift}
+use Rattle.net.specs.Amounts.{Amounts, x-on, y-on, moves, moves-r, Shift, none, some, all, shift}
 use Rattle.net.specs.Bend.{pt}
 
 -- middle port i of q reaches p
@@ -67,18 +67,12 @@ module _ {g g′ : Net} {l r s₁ s₂ : ℕ} (inv : Inv g) (a : Amounts strict 
   steps-b : (c d : ℕ) → c ≤ d → d < g .m → g .x (g .w c) + g .y (g .w c) + d ≤ g .x (g .w d) + g .y (g .w d) + c
   steps-b c d b dm = omega (arith, rise fb (λ j. pt g (g .w j)) (g .m) (λ j jm. omega (arith, chain h j (suc j) (omega arith) jm)) c d b dm)
 
-  -- where a boundary point of g stands in g′, and one inside the run
-  x-on : (i : ℕ) → i < g .m → g′ .x (g .w i) ≡ g .x (g .w i) + moves l r s₁ s₂ i
-  x-on i im = let o = h .on i im in omega (arith, a .x′ (g .w i) (o .0), ap (moves l r s₁ s₂) (o .1))
-
-  y-on : (i : ℕ) → i < g .m → g′ .y (g .w i) ≡ g .y (g .w i)
-  y-on i im = a .y′ (g .w i) (h .on i im .0)
-
+  -- where a boundary point inside the run stands in g′
   x-in : (c : ℕ) → l < c → c < r → g′ .x (g .w c) ≡ g .x (g .w c) + s₁
   x-in c lc cr = go (shift l r s₁ s₂ c lr)
     where
       e : g′ .x (g .w c) ≡ g .x (g .w c) + moves l r s₁ s₂ c
-      e = x-on c (omega (arith, rm))
+      e = x-on h a c (omega (arith, rm))
 
       go : Shift l r s₁ s₂ c → g′ .x (g .w c) ≡ g .x (g .w c) + s₁
       go (none b q) = absurd (omega arith)
@@ -87,7 +81,7 @@ module _ {g g′ : Net} {l r s₁ s₂ : ℕ} (inv : Inv g) (a : Amounts strict 
 
   -- x + y of the new point, by that of w r in g
   new-b : g′ .x (g .k) + g′ .y (g .k) + 1 ≡ g .x (g .w r) + s₁ + s₂ + g .y (g .w r)
-  new-b = omega (arith, a .new-b, x-on r rm, moves-r l r s₁ s₂ lr (a .one) (a .two))
+  new-b = omega (arith, a .new-b, x-on h a r rm, moves-r l r s₁ s₂ lr (a .one) (a .two))
 
   -- the two facts on numbers, at boundary point c
   own-next : (c : ℕ) → l < c → c < r →
@@ -99,14 +93,14 @@ module _ {g g′ : Net} {l r s₁ s₂ : ℕ} (inv : Inv g) (a : Amounts strict 
       (a .new-a) new-b (omega (arith, steps-a l c (omega arith) (omega (arith, rm)))) (omega (arith, steps-b c r (omega arith) rm)) (a .one) (a .two) (omega arith)
       in
       let ex = x-in c lc cr in
-      let ey = y-on c (omega (arith, rm)) in
+      let ey = y-on h a c (omega (arith, rm)) in
       (omega arith, omega arith)
 
   next-a : (c : ℕ) → l < c → c < r → g′ .x (g .k) + g′ .y (g .k) + (c - l) < g′ .x (g .w c) + g′ .y (g .w c) + 2 * g′ .h (g .k) →
       (g′ .x (g .k) + (c - l + 1) + g′ .y (g .w c) ≤ g′ .x (g .w c) + g′ .y (g .k)) × (r - l < 2 * g′ .h (g .k))
   next-a c lc cr b =
       let ex = x-in c lc cr in
-      let ey = y-on c (omega (arith, rm)) in
+      let ey = y-on h a c (omega (arith, rm)) in
       let t =
       next (g .x (g .w l)) (g .y (g .w l)) (g .x (g .w c)) (g .y (g .w c)) (g .x (g .w r)) (g .y (g .w r)) (g′ .x (g .k)) (g′ .y (g .k)) s₁ s₂ (r - l) (c - l)
       (a .new-a) new-b (omega (arith, steps-a l c (omega arith) (omega (arith, rm)))) (omega (arith, steps-b c r (omega arith) rm)) (a .one) (a .two) (omega arith)
@@ -139,7 +133,7 @@ module _ {g g′ : Net} {l r s₁ s₂ : ℕ} (inv : Inv g) (a : Amounts strict 
           let o = own-next c lc cr in
           let s = steps-a (l + from) c (omega arith) (omega (arith, rm)) in
           let ex = x-in c lc cr in
-          let ey = y-on c (omega (arith, rm)) in
+          let ey = y-on h a c (omega (arith, rm)) in
           let ex′ = x-in (l + from) (omega (arith, f .start)) (omega arith) in
-          let ey′ = y-on (l + from) (omega (arith, rm)) in
+          let ey′ = y-on h a (l + from) (omega (arith, rm)) in
           record { first = omega arith; last = omega arith; to-a = omega arith; to-b = omega arith }

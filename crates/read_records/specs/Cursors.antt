@@ -15,6 +15,7 @@ use Rattle.rules.specs.declared.Answer.the-variants.{Accepted, Refused}
 use Rattle.rules.specs.Refusals.{Result, good, refused, answer, _>>_, refuseIf}
 use Rattle.rules.specs.Records.{Shape, plain, Cursor, Found, wordsIn, wordsAt, restOf, readRecord, readEnd, pointEntries, endShape, entriesMark, endMark}
 use Rattle.words.specs.Bytes.{wordAt}
+use Rattle.rules.specs.Lengths.{length-words}
 use Rattle.rules.specs.Results.{refusing, all-passed}
 
 -- the file f from offset `at` on
@@ -88,14 +89,8 @@ copied f e at i v h b t q =
     rw (add-one i, take-suc-set e i v b, t, more, one)
 
 -- c numbers that are there
-count-words : (c : ℕ) (l : List ℕ) → 2 * c ≤ length l → length (wordsIn c l) ≡ c
-count-words zero l h = refl
-count-words (suc c) [] h = absurd (omega arith)
-count-words (suc c) (a ∷ []) h = absurd (omega arith)
-count-words (suc c) (a ∷ b ∷ l) h = ap suc (count-words c l (omega arith))
-
 pub words-count : (f : List ℕ) (from c : ℕ) → from + 2 * c ≤ length f → length (wordsIn c (drop from f)) ≡ c
-words-count f from c h = count-words c (drop from f) (omega (arith, length-drop from f))
+words-count f from c h = length-words c (drop from f) (omega (arith, length-drop from f))
 
 -- ---- a record
 

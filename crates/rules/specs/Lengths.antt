@@ -1,5 +1,5 @@
 -- How long the lists of the rules are, and lists one behind the other.
-use Prim.Native.Nat.{ℕ, suc, _*_, _/_, _%_}
+use Prim.Native.Nat.{ℕ, zero, suc, _*_, _/_, _%_, _≤_}
 use mathlib.Core.Path.{_≡_, refl, ap, _∙_}
 use mathlib.Core.List.{List, [], _∷_, _++_, map}
 use native.Mathlib.Omega.{arith}
@@ -8,7 +8,7 @@ use Rattle.rules.specs.declared.Entry.{Entry}
 use Rattle.rules.specs.declared.Bend.{Bend}
 use Rattle.rules.specs.Entries.{entryOf}
 use Rattle.rules.specs.Adding.{pointsOf, newLines}
-use Rattle.rules.specs.Records.{bytesOf}
+use Rattle.rules.specs.Records.{bytesOf, wordsIn}
 
 -- there are as many points as entries
 pub length-points : (es : List Entry) → length (pointsOf es) ≡ length es
@@ -27,6 +27,13 @@ length-new p bend i (e ∷ es) = ap suc (length-new p bend (suc i) es)
 pub length-bytes : (ws : List ℕ) → length (bytesOf ws) ≡ 2 * length ws
 length-bytes [] = refl
 length-bytes (w ∷ ws) = omega (arith, length-bytes ws)
+
+-- c numbers, taken from the front of enough bytes, are c
+pub length-words : (c : ℕ) (bs : List ℕ) → 2 * c ≤ length bs → length (wordsIn c bs) ≡ c
+length-words zero bs b = refl
+length-words (suc c) [] b = absurd (omega arith)
+length-words (suc c) (x ∷ []) b = absurd (omega arith)
+length-words (suc c) (x ∷ y ∷ bs) b = ap suc (length-words c bs (omega arith))
 
 -- the bytes of two lists of numbers, one behind the other
 pub bytes-append : (us ws : List ℕ) → bytesOf (us ++ ws) ≡ bytesOf us ++ bytesOf ws
