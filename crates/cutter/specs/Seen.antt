@@ -8,7 +8,7 @@ use borrow.Author.Tests.{lt-ltb, le-ltb}
 use Rattle.rules.specs.declared.Line.{Line}
 use Rattle.rules.specs.declared.Place.{Place}
 use Rattle.rules.specs.declared.Refusal.the-variants.{BadTool, Unfinished, NoSuch}
-use Rattle.rules.specs.Refusals.{number, Result, good, refused, Told, gives, refusedWith, told, _>>_, refuseIf}
+use Rattle.rules.specs.Refusals.{number, Result, good, Told, gives, refusedWith, told, _>>_, refuseIf}
 use Rattle.rules.specs.Points.{Drawing as Plan, placeOf, lineAt}
 use Rattle.rules.specs.Ports.{bendPlace}
 use Rattle.rules.specs.Moves.{Tool as WholeTool, Move as WholeMove, lift, allMoves, moveAt}

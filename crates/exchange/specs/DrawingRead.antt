@@ -1,12 +1,12 @@
 -- DEMAND 2, drawing files: reading the drawing file of a finished drawing gives the drawing back, and what is read is such a file.
 use Prim.Native.Nat.{ℕ, suc, _+_, _-_, _*_, _≤_}
 use mathlib.Core.Path.{_≡_, refl, ap, ap₂, sym, _∙_, subst}
-use mathlib.Core.Bool.{Bool, true, false, not, _&&_, false≢true}
+use mathlib.Core.Bool.{false, not, _&&_}
 use mathlib.Core.List.{List, [], _∷_, _++_}
 use native.Mathlib.Omega.{arith}
 use lib.ListN.{length, getD, length-append}
-use lib.Dec.{eqb, leb}
-use borrow.Author.Tests.{eqb-true, le-leb, leb-true, not-false}
+use lib.Dec.{eqb}
+use borrow.Author.Tests.{eqb-true, not-false}
 use Rattle.rules.specs.declared.Entry.{Entry}
 use Rattle.rules.specs.declared.Refusal.the-variants.{OutOfRange, OtherDrawing}
 use Rattle.rules.specs.Basics.{between}
@@ -16,7 +16,7 @@ use Rattle.rules.specs.Points.{Drawing, m, W}
 use Rattle.rules.specs.Records.{written, readRecord, several, readEnd, fromStart, drawingHead, pointPlace, lineShape, endShape}
 use Rattle.rules.specs.Lengths.{length-bytes}
 use Rattle.rules.specs.RoundTrip.{record-back}
-use Rattle.rules.specs.DrawingFile.{highest, writePoints, drawingBytes, judgeLines, compareBytes, judgeDrawing, readDrawing}
+use Rattle.rules.specs.DrawingFile.{highest, writePoints, drawingBytes, compareBytes, judgeDrawing, readDrawing}
 use Rattle.promise.specs.Next.{next}
 use Rattle.promise.specs.Accepted.{accepted}
 use Rattle.promise.specs.Border.{m′}

@@ -1,12 +1,12 @@
 -- An accepted order file is the one that its drawing writes.
 use Prim.Native.Nat.{ℕ, zero, suc, _-_, _≤_}
 use mathlib.Core.Path.{_≡_, refl, ap, ap₂, sym, _∙_, subst, subst₂}
-use mathlib.Core.Bool.{Bool, true, false, not, _&&_, true≢false}
+use mathlib.Core.Bool.{Bool, true, false, not}
 use mathlib.Core.List.{List, [], _∷_, _++_, map, append-assoc, append-nil}
 use native.Mathlib.Omega.{arith}
 use lib.ListN.{length}
-use lib.Dec.{ltb, leb}
-use borrow.Author.Tests.{ltb-false, leb-true, ne-eqb, not-false}
+use lib.Dec.{ltb}
+use borrow.Author.Tests.{ltb-false, ne-eqb, not-false}
 use Rattle.rules.specs.declared.Entry.{Entry}
 use Rattle.rules.specs.declared.Refusal.the-variants.{OutOfRange, OtherStart, ExtraBytes}
 use Rattle.rules.specs.Basics.{if_then_else_, between, same, snoc}

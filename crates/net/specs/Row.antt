@@ -1,7 +1,7 @@
 -- Step 5: which middle port each point inside the run takes, and why it reaches: port i or port i + 1 does, always.
 -- It is said of any net g′ that has the amounts of steps 1 to 4 and the middle row's height.
 use Prim.Native.Nat.{ℕ, suc, _+_, _*_, _-_, _/_, _<_, _≤_}
-use mathlib.Core.Path.{_≡_, refl, ap}
+use mathlib.Core.Path.{_≡_, refl}
 use mathlib.Core.Bool.{Bool, true, false}
 use native.Mathlib.Omega.{arith}
 use native.Mathlib.Decide.{decLe}

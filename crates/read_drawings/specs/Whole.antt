@@ -6,8 +6,7 @@ use mathlib.Core.List.{List, _∷_}
 use native.Mathlib.Omega.{arith}
 use lib.ListN.{length}
 use borrow.Author.Tests.{eq-eqb, ne-eqb, lt-ltb}
-use Rattle.rules.specs.declared.Refusal.the-variants.{OtherStart}
-use Rattle.rules.specs.Refusals.{Result, good, refused, _>>_}
+use Rattle.rules.specs.Refusals.{Result, good, _>>_}
 use Rattle.rules.specs.Entries.{entryOf, wordOf, pointLimit}
 use Rattle.rules.specs.Points.{Drawing, start}
 use Rattle.rules.specs.Records.{Found, lineSize}

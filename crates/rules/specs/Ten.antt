@@ -7,7 +7,7 @@ use lib.ListN.{getD}
 use lib.Dec.{eqb}
 use Rattle.rules.specs.declared.Place.{Place}
 use Rattle.rules.specs.declared.Bend.the-variants.{Straight}
-use Rattle.rules.specs.declared.Refusal.the-variants.{OutOfRange, OutputShort, NoSuch, Unfinished, BadTool}
+use Rattle.rules.specs.declared.Refusal.the-variants.{OutputShort, NoSuch, Unfinished, BadTool}
 use Rattle.rules.specs.Basics.{keep}
 use Rattle.rules.specs.Refusals.{good, refused, Told, gives, refusedWith, told, toldAnswer}
 use Rattle.rules.specs.Points.{Drawing, at, placeOf, opening, opened}

@@ -1,6 +1,6 @@
 -- Which test gives the answer of all, from what the tests before it have shown.
 use Prim.Native.Nat.{ℕ, _+_, _<_, _≤_}
-use mathlib.Core.Path.{_≡_, refl}
+use mathlib.Core.Path.{_≡_}
 use mathlib.Core.Bool.{not, _&&_}
 use mathlib.Core.List.{List}
 use lib.ListN.{length}
@@ -9,7 +9,7 @@ use borrow.Author.Tests.{lt-ltb, le-ltb, le-leb, lt-leb, eq-eqb, ne-eqb}
 use Rattle.rules.specs.declared.Refusal.{Refusal}
 use Rattle.rules.specs.declared.Refusal.the-variants.{Finished, FewEntries, NotWhole}
 use Rattle.rules.specs.declared.Answer.the-variants.{Accepted, Refused}
-use Rattle.rules.specs.Refusals.{Result, good, refused, _>>_, refuseIf, answer}
+use Rattle.rules.specs.Refusals.{_>>_, refuseIf, answer}
 use Rattle.rules.specs.Results.{accepted, stops}
 use Rattle.store_links.specs.Judging.{entriesPass, runPasses, passes}
 
