@@ -118,7 +118,7 @@ both true b e = (refl, e)
 both false b e = absurd (false≢true e)
 
 -- and what passes it lies in range
-good-range : (n s : ℕ) → not (between 3 1024 n && between 1 8 s) ≡ false → (3 ≤ n) × (n ≤ 1024) × (1 ≤ s) × (s ≤ 8)
+pub good-range : (n s : ℕ) → not (between 3 1024 n && between 1 8 s) ≡ false → (3 ≤ n) × (n ≤ 1024) × (1 ≤ s) × (s ≤ 8)
 good-range n s h =
     let t = both (between 3 1024 n) (between 1 8 s) (not-false (between 3 1024 n && between 1 8 s) h) in
     let u = both (leb 3 n) (leb n 1024) (t .0) in

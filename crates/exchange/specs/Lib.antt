@@ -11,4 +11,5 @@ pub mod OrderBytes
 pub mod Groups
 pub mod WholeRead
 pub mod DrawingRead
+pub mod FirstBytes
 pub mod Demand2

@@ -16,6 +16,7 @@ use Rattle.rules.specs.Adding.{judge, placedNew, addEntries}
 use Rattle.rules.specs.Calls.{drawn, said}
 use Rattle.rules.specs.OrderFile.{readRest, readPoints, readOrder, writeOrder}
 use Rattle.rules.specs.DrawingFile.{drawingBytes, judgeRest, judgeLines, readDrawing, drawFile, orderBack}
+use Rattle.rules.specs.Decimal.{digits}
 use Rattle.rules.specs.Output.{fitted, filled, refusalLine}
 use Rattle.rules.specs.Lookups.{lookPoint}
 use Rattle.rules.specs.Moves.{Tool, moveAt, cut}
@@ -80,5 +81,5 @@ pub others :
     (lookPoint K4 5 ≡ good (at 6 5)) × (lookPoint K4 6 ≡ refused NoSuch 0) × (lookPoint K4 0 ≡ refused NoSuch 0) ×
     (moveAt K4 tool 27 ≡ good (cut 320 240)) × (moveAt K4 tool 45 ≡ refused NoSuch 0) × (moveAt K3 tool 0 ≡ refused Unfinished 0) ×
     (moveAt K3 (record { pitch = 81; depth = 40; clearance = 1 }) 0 ≡ refused BadTool 0)
-unfolding judge placedNew addEntries readRest readPoints readOrder drawingBytes
+unfolding judge placedNew addEntries readRest readPoints readOrder drawingBytes digits
 others = (refl, refl, refl, refl, refl, refl, refl, refl, refl, refl)
