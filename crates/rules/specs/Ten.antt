@@ -17,7 +17,7 @@ use Rattle.rules.specs.Calls.{drawn, said}
 use Rattle.rules.specs.OrderFile.{readRest, readPoints, readOrder, writeOrder}
 use Rattle.rules.specs.DrawingFile.{drawingBytes, judgeRest, judgeLines, readDrawing, drawFile, orderBack}
 use Rattle.rules.specs.Decimal.{digits}
-use Rattle.rules.specs.Output.{fitted, filled, refusalLine}
+use Rattle.rules.specs.Output.{fitted, filled, refusalLine, program, backProgram}
 use Rattle.rules.specs.Lookups.{lookPoint}
 use Rattle.rules.specs.Moves.{Tool, moveAt, cut}
 
@@ -69,6 +69,13 @@ wholeDrawing = 0x44 ∷ 0x48 ∷ 0x00 ∷ 0x03 ∷ 0x00 ∷ 0x01 ∷ 0x00 ∷ 0x
 pub whole : (drawFile wholeOrder ≡ good wholeDrawing) × (orderBack wholeDrawing ≡ good wholeOrder)
 unfolding judge placedNew addEntries readRest readPoints readOrder writeOrder drawingBytes judgeRest judgeLines readDrawing
 whole = (refl, refl)
+
+-- the two programs print these files, and `refused 10 at 66` where a byte stands behind the drawing
+pub programs :
+    (program wholeOrder ≡ wholeDrawing) × (backProgram wholeDrawing ≡ wholeOrder) ×
+    (backProgram (wholeDrawing ++ (0 ∷ [])) ≡ 114 ∷ 101 ∷ 102 ∷ 117 ∷ 115 ∷ 101 ∷ 100 ∷ 32 ∷ 49 ∷ 48 ∷ 32 ∷ 97 ∷ 116 ∷ 32 ∷ 54 ∷ 54 ∷ 10 ∷ [])
+unfolding judge placedNew addEntries readRest readPoints readOrder writeOrder drawingBytes judgeRest judgeLines readDrawing digits
+programs = (refl, refl, refl)
 
 abbrev tool : Tool
 tool = record { pitch = 80; depth = 40; clearance = 1 }
