@@ -1,12 +1,5 @@
-// Runs the programs' work on the worked cases in data/, and writes one line for each: its name, and what comes out.
+// Runs the programs' work on the worked cases in data/, and writes for each its name, what comes out, and a line feed.
 use libc::STDOUT_FILENO;
-
-// Ends the line of an accepted case; a refusal ends its own.
-fn end_line(accepted: bool) {
-    if accepted {
-        io::write_all(STDOUT_FILENO, b"\n");
-    }
-}
 
 // Opens a case's file and writes its name.
 fn begin(name: &[u8]) -> i32 {
@@ -20,21 +13,25 @@ fn begin(name: &[u8]) -> i32 {
     fd
 }
 
+// Closes it, behind what came out: a line feed, also after a refusal, which ends its own line.
+fn end(fd: i32) {
+    io::write_all(STDOUT_FILENO, b"\n");
+    libc::close(fd);
+}
+
 fn draw(name: &[u8]) {
     let fd = begin(name);
     if 0 <= fd {
-        let accepted = files::draw(fd);
-        end_line(accepted);
-        libc::close(fd);
+        files::report(name, files::draw(fd));
+        end(fd);
     }
 }
 
 fn undraw(name: &[u8]) {
     let fd = begin(name);
     if 0 <= fd {
-        let accepted = files::undraw(fd);
-        end_line(accepted);
-        libc::close(fd);
+        files::report(name, files::undraw(fd));
+        end(fd);
     }
 }
 
@@ -107,6 +104,17 @@ fn not_read() {
     undraw(b"undraw_bytes_after_the_end");
 }
 
+// More than 20,000 bytes, read or drawn: buffers have to be as long as document 01 says.
+fn large() {
+    draw(b"draw_long_record_no_run");
+    draw(b"draw_longer_than_is_judged");
+    draw(b"draw_n_600");
+    draw(b"draw_n_1024_scaled_with_guides");
+    undraw(b"undraw_n_600");
+    undraw(b"undraw_n_1024_scaled_with_guides");
+    undraw(b"undraw_n_1024_and_a_byte");
+}
+
 fn main() {
     drawn();
     cut_short();
@@ -116,4 +124,5 @@ fn main() {
     bad_entries();
     read_back();
     not_read();
+    large();
 }

@@ -1,4 +1,4 @@
 // The drawing program: an order file from standard input, its drawing file or the line of its refusal to standard output.
 fn main() {
-    let _ = files::draw(0);
+    files::report(b"draw", files::draw(0));
 }

@@ -115,7 +115,7 @@ range-good : (n s : ℕ) → 3 ≤ n → n ≤ 1024 → 1 ≤ s → s ≤ 8 → 
 range-good n s a b c e = rw (range-in 3 1024 n a b, range-in 1 8 s c e)
 
 -- and what passes it lies in range
-good-range : (n s : ℕ) → not (between 3 1024 n && between 1 8 s) ≡ false → (3 ≤ n) × (n ≤ 1024) × (1 ≤ s) × (s ≤ 8)
+pub good-range : (n s : ℕ) → not (between 3 1024 n && between 1 8 s) ≡ false → (3 ≤ n) × (n ≤ 1024) × (1 ≤ s) × (s ≤ 8)
 good-range n s h =
     let t = both (between 3 1024 n) (between 1 8 s) (not-false (between 3 1024 n && between 1 8 s) h) in
     let u = in-range 3 1024 n (t .0) in

@@ -1,57 +1,99 @@
-// The programs' work: reads a file, writes what the panel makes of it or the line of its refusal.
-// No `ensures`: the kit's `io` has no contract for what reaches standard output. `cases` tests it.
+// The programs' reading and writing. What they print is `printing`'s, with its proof; only that `read` and `write` do what C says of them is outside it.
+use libc::STDERR_FILENO;
 use libc::STDOUT_FILENO;
-use panel::Written;
 use rules::LONGEST_DRAWING;
 use rules::LONGEST_ORDER;
-use rules::Refusal;
-ghost use Rattle.files.specs.Within.{Told};
+ghost use Prim.Native.Nat.{_≤_};
+ghost use lib.ListN.{length};
 
-// How many bytes of an order file, and of a drawing file, are judged as the whole file.
+// "It judges the first 32,768 bytes of its input as the whole file."
 const ORDER_INPUT: usize = 32768;
 
+// Room for every drawing file and more.
 const DRAWING_INPUT: usize = 65536;
 
-// Draws an order file; says whether it was accepted. Judges the first 32,768 bytes as the whole file; the longest drawing has 42,948 bytes.
-pub fn draw(fd: i32) -> bool {
-    let mut order = [0u8; ORDER_INPUT];
-    let n = io::read_full(fd, &mut order);
-    let mut out = [0u8; LONGEST_DRAWING];
-    let written = panel::draw(&order[..n], &mut out);
-    tell(written, &out)
+// What came of a program's work: all of its output was written, or not all of it, or the input couldn't be read.
+pub enum Outcome {
+    Written,
+    NotWritten,
+    NotRead,
 }
 
-// Gives the order file of a drawing file back; says whether it was read. Judges the first 65,536 bytes as the whole file; no order file that comes back is longer than 10,238 bytes.
-pub fn undraw(fd: i32) -> bool {
-    let mut file = [0u8; DRAWING_INPUT];
-    let n = io::read_full(fd, &mut file);
-    let mut out = [0u8; LONGEST_ORDER];
-    let written = panel::undraw(&file[..n], &mut out);
-    tell(written, &out)
+// How many bytes stand at the start of a buffer, and whether a read failed behind them.
+struct Input {
+    bytes: usize,
+    failed: bool,
 }
 
-// Writes the bytes that stand in the buffer, or the refusal; says which.
-fn tell(written: Written, out: &[u8]) -> bool
-    requires { ⌜ Told written (now out) ⌝ }
+// Reads until the buffer is full, the input ends or a read fails.
+fn read_input(fd: i32, buffer: &mut [u8]) -> Input
+    ensures { λ r. ⌜ r .bytes ≤ length (now (buffer .exit)) ⌝ }
 {
-    match written {
-        Written::Bytes(k) => {
-            io::write_all(STDOUT_FILENO, &out[..k]);
-            true
+    let mut bytes = 0;
+    while bytes < buffer.len() {
+        let got = libc::read(fd, &mut buffer[bytes..]);
+        if got < 0 {
+            return Input {
+                bytes,
+                failed: true,
+            };
         }
-        Written::Refused(r, p) => {
-            refuse(r, p);
-            false
+        let more = io::count(got, &buffer[bytes..]);
+        if more == 0 {
+            break;
         }
+        bytes += more;
+    }
+    Input {
+        bytes,
+        failed: false,
     }
 }
 
-// Writes the line `refused N at P`.
-fn refuse(r: Refusal, place: usize) {
-    let number = rules::refusal_number(r);
-    io::write_all(STDOUT_FILENO, b"refused ");
-    io::print_decimal(STDOUT_FILENO, number as u64);
-    io::write_all(STDOUT_FILENO, b" at ");
-    io::print_decimal(STDOUT_FILENO, place as u64);
-    io::write_all(STDOUT_FILENO, b"\n");
+// Writes the bytes to standard output.
+fn print(bytes: &[u8]) -> Outcome {
+    if io::write_all(STDOUT_FILENO, bytes) {
+        Outcome::Written
+    } else {
+        Outcome::NotWritten
+    }
+}
+
+// The drawing program on an open file.
+pub fn draw(fd: i32) -> Outcome {
+    let mut order = [0u8; ORDER_INPUT];
+    let input = read_input(fd, &mut order);
+    if input.failed {
+        return Outcome::NotRead;
+    }
+    let mut page = [0u8; LONGEST_DRAWING];
+    let length = printing::draw_page(&order, input.bytes, &mut page);
+    print(&page[..length])
+}
+
+// The reading program on an open file.
+pub fn undraw(fd: i32) -> Outcome {
+    let mut file = [0u8; DRAWING_INPUT];
+    let input = read_input(fd, &mut file);
+    if input.failed {
+        return Outcome::NotRead;
+    }
+    let mut page = [0u8; LONGEST_ORDER];
+    let length = printing::undraw_page(&file, input.bytes, &mut page);
+    print(&page[..length])
+}
+
+// Says on standard error, behind the program's name, what failed: the language has no exit status.
+pub fn report(program: &[u8], outcome: Outcome) {
+    match outcome {
+        Outcome::Written => {}
+        Outcome::NotWritten => say(program, b": not all of the output was written\n"),
+        Outcome::NotRead => say(program, b": the input could not be read\n"),
+    }
+}
+
+// Writes a line on standard error.
+fn say(program: &[u8], text: &[u8]) {
+    io::write_all(STDERR_FILENO, program);
+    io::write_all(STDERR_FILENO, text);
 }

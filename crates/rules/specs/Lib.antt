@@ -11,6 +11,7 @@ pub mod Demand
 pub mod Records
 pub mod OrderFile
 pub mod DrawingFile
+pub mod Decimal
 pub mod Output
 pub mod Lookups
 pub mod Moves

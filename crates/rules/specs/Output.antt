@@ -1,11 +1,12 @@
 -- Outputs: "Output past the written bytes stays"; "24 always has place 0" and is tested last; "a refusal changes no output byte".
-use Prim.Native.Nat.{ℕ, zero, suc, _+_, _/_, _%_}
+use Prim.Native.Nat.{ℕ}
 use mathlib.Core.List.{List, [], _∷_, _++_}
 use lib.ListN.{length, take, drop}
 use lib.Dec.{ltb}
 use Rattle.rules.specs.declared.Refusal.the-variants.{OutputShort}
 use Rattle.rules.specs.Refusals.{Result, good, refused, number, _>>_, _>>=_, refuseIf}
-use Rattle.rules.specs.DrawingFile.{drawFile}
+use Rattle.rules.specs.Decimal.{digits}
+use Rattle.rules.specs.DrawingFile.{drawFile, orderBack}
 
 -- the bytes that a call writes into a buffer of this length, or its refusal
 abbrev pub fitted : List ℕ → Result (List ℕ) → Result (List ℕ)
@@ -27,15 +28,10 @@ filled buffer (refused r p) = buffer
 
 -- ---- "The drawing program reads an order file from standard input and writes the drawing, or the line `refused N at P`."
 
--- the decimal digits of v, at most `most` of them
-abbrev pub digits : ℕ → ℕ → List ℕ
-digits zero v = []
-digits (suc most) v = elim (v / 10) [ zero ↦ (48 + v) ∷ [] | suc t ↦ digits most (suc t) ++ ((48 + v % 10) ∷ []) ]
-
--- "refused ", "at " and a line feed around two numbers of at most 5 digits
+-- "refused ", " at " and a line feed around two numbers
 abbrev pub refusalLine : ℕ → ℕ → List ℕ
 refusalLine n place =
-    (114 ∷ 101 ∷ 102 ∷ 117 ∷ 115 ∷ 101 ∷ 100 ∷ 32 ∷ []) ++ (digits 5 n ++ ((32 ∷ 97 ∷ 116 ∷ 32 ∷ []) ++ (digits 5 place ++ (10 ∷ []))))
+    (114 ∷ 101 ∷ 102 ∷ 117 ∷ 115 ∷ 101 ∷ 100 ∷ 32 ∷ []) ++ (digits n ++ ((32 ∷ 97 ∷ 116 ∷ 32 ∷ []) ++ (digits place ++ (10 ∷ []))))
 
 abbrev pub printed : Result (List ℕ) → List ℕ
 printed (good bytes) = bytes
@@ -47,3 +43,7 @@ judgedBytes = 32768
 
 abbrev pub program : List ℕ → List ℕ
 program input = printed (drawFile (take judgedBytes input))
+
+-- the reading program: a drawing file, of which the order file comes back; document 01 names no limit, so the whole input is the file
+abbrev pub backProgram : List ℕ → List ℕ
+backProgram input = printed (orderBack input)

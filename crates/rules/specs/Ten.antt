@@ -16,7 +16,8 @@ use Rattle.rules.specs.Adding.{callTests, judge, placedNew, addEntries}
 use Rattle.rules.specs.Calls.{drawn, said}
 use Rattle.rules.specs.OrderFile.{readRest, readPoints, readOrder, writeOrder}
 use Rattle.rules.specs.DrawingFile.{drawingBytes, judgeRest, judgeLines, judgeDrawing, readDrawing, drawFile, orderBack}
-use Rattle.rules.specs.Output.{fitted, filled, refusalLine}
+use Rattle.rules.specs.Decimal.{digits}
+use Rattle.rules.specs.Output.{fitted, filled, refusalLine, program, backProgram}
 use Rattle.rules.specs.Lookups.{lookPoint}
 use Rattle.rules.specs.Moves.{Tool, moveAt, cut}
 
@@ -69,6 +70,13 @@ pub whole : (drawFile wholeOrder ≡ good wholeDrawing) × (orderBack wholeDrawi
 unfolding callTests judge placedNew addEntries readRest readPoints readOrder writeOrder drawingBytes judgeRest judgeLines judgeDrawing readDrawing
 whole = (refl, refl)
 
+-- the two programs print these files, and `refused 10 at 66` where a byte stands behind the drawing
+pub programs :
+    (program wholeOrder ≡ wholeDrawing) × (backProgram wholeDrawing ≡ wholeOrder) ×
+    (backProgram (wholeDrawing ++ (0 ∷ [])) ≡ 114 ∷ 101 ∷ 102 ∷ 117 ∷ 115 ∷ 101 ∷ 100 ∷ 32 ∷ 49 ∷ 48 ∷ 32 ∷ 97 ∷ 116 ∷ 32 ∷ 54 ∷ 54 ∷ 10 ∷ [])
+unfolding callTests judge placedNew addEntries readRest readPoints readOrder writeOrder drawingBytes judgeRest judgeLines judgeDrawing readDrawing digits
+programs = (refl, refl, refl)
+
 abbrev tool : Tool
 tool = record { pitch = 80; depth = 40; clearance = 1 }
 
@@ -80,5 +88,5 @@ pub others :
     (lookPoint K4 5 ≡ good (at 6 5)) × (lookPoint K4 6 ≡ refused NoSuch 0) × (lookPoint K4 0 ≡ refused NoSuch 0) ×
     (moveAt K4 tool 27 ≡ good (cut 320 240)) × (moveAt K4 tool 45 ≡ refused NoSuch 0) × (moveAt K3 tool 0 ≡ refused Unfinished 0) ×
     (moveAt K3 (record { pitch = 81; depth = 40; clearance = 1 }) 0 ≡ refused BadTool 0)
-unfolding callTests judge placedNew addEntries readRest readPoints readOrder drawingBytes
+unfolding callTests judge placedNew addEntries readRest readPoints readOrder drawingBytes digits
 others = (refl, refl, refl, refl, refl, refl, refl, refl, refl, refl)

@@ -1,46 +1,54 @@
--- `files::draw`: what the panel wrote can be told.
+-- `files::draw`: the buffers are as long as the middle asks, and what is to be printed lies within the page.
+use mathlib.Core.Path.{ap, sym, _∙_}
+use native.Mathlib.Omega.{arith}
+use lib.ListN.{length}
 use borrow.Author.Needs.{needs}
-use Rattle.files.specs.Within.{told}
+use Rattle.printing.specs.Putting.{first-printed}
+use Rattle.printing.specs.Began.{began-itself}
 use Rattle.files.proofs.draw.Statement.{statement}
 use Rattle.files.proofs.draw.Tie as tie
 
-slice-aggregate-read-full : tie.Need-slice-aggregate-read-full
-slice-aggregate-read-full c = search needs
+slice-aggregate-read-input : tie.Need-slice-aggregate-read-input
+slice-aggregate-read-input c = search needs
 
-read-full-requires : tie.Need-read-full-requires
-read-full-requires c κs = search needs
-
-array-share-prefix-order : tie.Need-array-share-prefix-order
-array-share-prefix-order c = search needs
-
-slice-aggregate-draw : tie.Need-slice-aggregate-draw
-slice-aggregate-draw c = search needs
-
-slice-aggregate-draw-2 : tie.Need-slice-aggregate-draw-2
-slice-aggregate-draw-2 c = search needs
-
-draw-requires : tie.Need-draw-requires
-draw-requires c κs = search needs
-
-slice-aggregate-tell : tie.Need-slice-aggregate-tell
-slice-aggregate-tell c = search needs
-
-tell-requires : tie.Need-tell-requires
-tell-requires c κs = told (c .before .before .draw .ensures)
+read-input-requires : tie.Need-read-input-requires
+read-input-requires c κs = search needs
 
 returns : tie.Need-returns
 returns c = search needs
+
+slice-aggregate-draw-page : tie.Need-slice-aggregate-draw-page
+slice-aggregate-draw-page c = search needs
+
+slice-aggregate-draw-page-2 : tie.Need-slice-aggregate-draw-page-2
+slice-aggregate-draw-page-2 c = search needs
+
+draw-page-requires : tie.Need-draw-page-requires
+draw-page-requires c κs = (omega arith, omega arith, omega arith)
+
+array-share-prefix-page : tie.Need-array-share-prefix-page
+array-share-prefix-page c = c .before .draw-page .ensures _ (began-itself _ _ (omega arith)) .fits
+
+slice-aggregate-print : tie.Need-slice-aggregate-print
+slice-aggregate-print c = let p = c .before .before .draw-page .ensures _ (began-itself _ _ (omega arith)) in p .size ∙ sym (ap length (first-printed p))
+
+print-requires : tie.Need-print-requires
+print-requires c κs = search needs
+
+returns-2 : tie.Need-returns-2
+returns-2 c = search needs
 
 pub draw-spec : {M : Type 1} → statement M
 draw-spec =
     tie.close
     (tie.spec
-    slice-aggregate-read-full
-    read-full-requires
-    array-share-prefix-order
-    slice-aggregate-draw
-    slice-aggregate-draw-2
-    draw-requires
-    slice-aggregate-tell
-    tell-requires
-    returns)
+    slice-aggregate-read-input
+    read-input-requires
+    returns
+    slice-aggregate-draw-page
+    slice-aggregate-draw-page-2
+    draw-page-requires
+    array-share-prefix-page
+    slice-aggregate-print
+    print-requires
+    returns-2)

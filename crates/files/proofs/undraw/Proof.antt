@@ -1,46 +1,54 @@
--- `files::undraw`: what the panel wrote can be told.
+-- `files::undraw`: the buffers are as long as the middle asks, and what is to be printed lies within the page.
+use mathlib.Core.Path.{ap, sym, _∙_}
+use native.Mathlib.Omega.{arith}
+use lib.ListN.{length}
 use borrow.Author.Needs.{needs}
-use Rattle.files.specs.Within.{told}
+use Rattle.printing.specs.Putting.{first-printed}
+use Rattle.printing.specs.Began.{began-itself}
 use Rattle.files.proofs.undraw.Statement.{statement}
 use Rattle.files.proofs.undraw.Tie as tie
 
-slice-aggregate-read-full : tie.Need-slice-aggregate-read-full
-slice-aggregate-read-full c = search needs
+slice-aggregate-read-input : tie.Need-slice-aggregate-read-input
+slice-aggregate-read-input c = search needs
 
-read-full-requires : tie.Need-read-full-requires
-read-full-requires c κs = search needs
-
-array-share-prefix-file : tie.Need-array-share-prefix-file
-array-share-prefix-file c = search needs
-
-slice-aggregate-undraw : tie.Need-slice-aggregate-undraw
-slice-aggregate-undraw c = search needs
-
-slice-aggregate-undraw-2 : tie.Need-slice-aggregate-undraw-2
-slice-aggregate-undraw-2 c = search needs
-
-undraw-requires : tie.Need-undraw-requires
-undraw-requires c κs = search needs
-
-slice-aggregate-tell : tie.Need-slice-aggregate-tell
-slice-aggregate-tell c = search needs
-
-tell-requires : tie.Need-tell-requires
-tell-requires c κs = told (c .before .before .undraw .ensures)
+read-input-requires : tie.Need-read-input-requires
+read-input-requires c κs = search needs
 
 returns : tie.Need-returns
 returns c = search needs
+
+slice-aggregate-undraw-page : tie.Need-slice-aggregate-undraw-page
+slice-aggregate-undraw-page c = search needs
+
+slice-aggregate-undraw-page-2 : tie.Need-slice-aggregate-undraw-page-2
+slice-aggregate-undraw-page-2 c = search needs
+
+undraw-page-requires : tie.Need-undraw-page-requires
+undraw-page-requires c κs = (omega arith, omega arith, omega arith)
+
+array-share-prefix-page : tie.Need-array-share-prefix-page
+array-share-prefix-page c = c .before .undraw-page .ensures _ (began-itself _ _ (omega arith)) .fits
+
+slice-aggregate-print : tie.Need-slice-aggregate-print
+slice-aggregate-print c = let p = c .before .before .undraw-page .ensures _ (began-itself _ _ (omega arith)) in p .size ∙ sym (ap length (first-printed p))
+
+print-requires : tie.Need-print-requires
+print-requires c κs = search needs
+
+returns-2 : tie.Need-returns-2
+returns-2 c = search needs
 
 pub undraw-spec : {M : Type 1} → statement M
 undraw-spec =
     tie.close
     (tie.spec
-    slice-aggregate-read-full
-    read-full-requires
-    array-share-prefix-file
-    slice-aggregate-undraw
-    slice-aggregate-undraw-2
-    undraw-requires
-    slice-aggregate-tell
-    tell-requires
-    returns)
+    slice-aggregate-read-input
+    read-input-requires
+    returns
+    slice-aggregate-undraw-page
+    slice-aggregate-undraw-page-2
+    undraw-page-requires
+    array-share-prefix-page
+    slice-aggregate-print
+    print-requires
+    returns-2)
