@@ -17,7 +17,7 @@ returns : tie.Need-returns
 returns c = search needs
 
 settle-requires : tie.Need-settle-requires
-settle-requires c κs = came-given (c .before .before .before .drawing-of .ensures) (c .enum-told .given .1)
+settle-requires c κs = came-given (c .before .before .before .drawing-of .ensures .0) (c .enum-told .given .1)
 
 print-all-requires : tie.Need-print-all-requires
 print-all-requires c κs = search needs
