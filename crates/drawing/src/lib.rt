@@ -227,19 +227,26 @@ fn first_cut(table: &Table, lines: usize, p: usize) -> usize
     e
 }
 
-// Some cut line that ends at p, or that there is none.
-pub fn cut_line(d: Drawing, p: usize) -> CutSeen
-    requires { ⌜ Came d ⌝ }
-    ensures { λ r. ⌜ ((q : Plan) → Is q d → LooksCut q p (sought r)) ⌝ }
+// Some cut line that ends at p, or that there is none, from a lent table.
+pub fn look_cut(table: &Table, c: Counts, p: usize) -> CutSeen
+    requires { ⌜ Came (record { counts = c; table = now table }) ⌝ }
+    ensures { λ r. ⌜ ((q : Plan) → Holds q (arraysIn (now (table .entry))) c → LooksCut q p (sought r)) ⌝ }
 {
-    let c = d.counts;
     if !is_point(c.k, p) {
         return CutSeen::Refused(Refusal::NoSuch, 0);
     }
-    let e = first_cut(&d.table, c.lines, p);
+    let e = first_cut(table, c.lines, p);
     if e < c.lines {
         CutSeen::Line(e)
     } else {
         CutSeen::Nothing
     }
+}
+
+// Some cut line that ends at p, or that there is none.
+pub fn cut_line(d: Drawing, p: usize) -> CutSeen
+    requires { ⌜ Came d ⌝ }
+    ensures { λ r. ⌜ ((q : Plan) → Is q d → LooksCut q p (sought r)) ⌝ }
+{
+    look_cut(&d.table, d.counts, p)
 }
