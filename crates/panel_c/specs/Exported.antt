@@ -1,9 +1,8 @@
--- What the exported functions that write answer: a number, and two words for number and place of a refusal.
+-- What the exported functions that write answer: a number, and three words of a refusal.
 use Prim.Native.Nat.{ℕ, _*_, _≤_}
-use mathlib.Core.Path.{_≡_, refl}
+use mathlib.Core.Path.{_≡_, refl, sym, ap, _∙_}
 use mathlib.Core.Bool.{Bool, true, false}
-use mathlib.Core.List.{List, [], _∷_}
-use native.Mathlib.Omega.{arith}
+use mathlib.Core.List.{List}
 use lib.ListN.{length}
 use lib.Dec.{ltb}
 use borrow.Author.Tests.{ltb-true, ltb-false}
@@ -11,7 +10,8 @@ use Rattle.rules.specs.declared.Answer.{Answer}
 use Rattle.rules.specs.declared.Answer.the-variants.{Accepted}
 use Rattle.rules.specs.declared.Answer.the-variants as Answer
 use Rattle.rules.specs.declared.Refusal.{Refusal}
-use Rattle.rules.specs.Refusals.{Result, good, refused, number, _>>=_}
+use Rattle.rules.specs.Refusals.{Result, good, refused, refusedWith, toldAnswer, _>>=_}
+use Rattle.rules.specs.Numbers.{never-gives}
 use Rattle.rules.specs.Points.{Drawing as Plan}
 use Rattle.rules.specs.Calls.{drawn}
 use Rattle.rules.specs.DrawingFile.{writeDrawing}
@@ -22,39 +22,33 @@ use Rattle.drawing.specs.View.{Is, Came}
 use Rattle.calls.specs.Lists.{callsIn}
 use Rattle.calls.specs.Ran.{Ran}
 use Rattle.panel.specs.declared.Written.{Written}
-use Rattle.panel.specs.declared.Written.the-variants.{Bytes, Refused}
+use Rattle.panel.specs.declared.Written.the-variants.{Refused}
 use Rattle.panel.specs.Outputs.{Wrote, turned}
+use Rattle.panel_told.specs.Telling.{outputBuffer, answersBuffer, refusalWords, codeOf, refusalOf}
+use Rattle.panel_told.specs.Answers.{fileGiven}
 
-abbrev pub countOf : Written → ℕ
-countOf (Bytes k) = k
-countOf (Refused r p) = 0
-
-abbrev pub refusalOf : Written → List ℕ
-refusalOf (Bytes k) = 0 ∷ 0 ∷ []
-refusalOf (Refused r p) = number r ∷ p ∷ []
-
--- `wanted` was to be written into a buffer
-pub record Exported (before : List ℕ) (wanted : Result (List ℕ)) (after : List ℕ) (r : ℕ) (refusal : List ℕ) : Type 0 where
+-- `wanted` was to be written into the output; 24 means that `buffer` was short
+pub record Exported (buffer : ℕ) (before : List ℕ) (wanted : Result (List ℕ)) (after : List ℕ) (r : ℕ) (refusal : List ℕ) : Type 0 where
   pub written : Written
   pub wrote : Wrote before wanted after written
-  pub count : r ≡ countOf written
-  pub place : refusal ≡ refusalOf written
-
--- an answer with nothing written
-abbrev pub nothingFor : Answer → Written
-nothingFor Accepted = Bytes 0
-nothingFor (Answer.Refused r p) = Refused r p
+  pub count : r ≡ codeOf (fileGiven written)
+  pub place : refusal ≡ refusalOf buffer (fileGiven written)
 
 -- the drawing that goes with an answer, or its refusal
 abbrev pub outcome : Answer → Plan → Result Plan
 outcome Accepted q = good q
 outcome (Answer.Refused r p) q = refused r p
 
+-- 24 of a list of calls is of the answers, 24 behind an accepted list is of the output
+abbrev pub bufferFor : Answer → ℕ
+bufferFor Accepted = outputBuffer
+bufferFor (Answer.Refused r p) = answersBuffer
+
 -- a list of calls was run, and the drawing file of its drawing was to be written
 pub record CallsExported (n : ℕ) (ws saidBefore saidAfter before after : List ℕ) (r : ℕ) (refusal : List ℕ) : Type 0 where
   pub done : Done
   pub ran : Ran n ws saidBefore saidAfter done
-  pub written : Exported before (outcome (done .answer) (drawn n (callsIn ws)) >>= writeDrawing) after r refusal
+  pub written : Exported (bufferFor (done .answer)) before (outcome (done .answer) (drawn n (callsIn ws)) >>= writeDrawing) after r refusal
 
 -- an accepted list has its drawing, which its calls reached
 pub drew : {n : ℕ} {ws before after : List ℕ} {r : Done} → Ran n ws before after r → r .answer ≡ Accepted → Reached (drawn n (callsIn ws)) × Is (drawn n (callsIn ws)) (r .drawing)
@@ -66,8 +60,8 @@ drew {n} {ws} {before} {r = r} t h = go-low (ltb n 3) refl
     two : ℕ
     two = 2 * length (callsIn ws)
 
-    never : {f : Refusal} → r .answer ≡ Answer.Refused f 0 → ⊥
-    never e = let z : _≡_ {A = ℕ} 0 1 = cc in omega arith
+    never : {why : ℕ} → toldAnswer (r .answer) ≡ refusedWith why 0 → ⊥
+    never e = never-gives (sym e ∙ ap toldAnswer h)
 
     go-short : 3 ≤ n → n ≤ 1024 → (b : Bool) → ltb (length before) two ≡ b → Drew
     go-short low high true e = absurd (never (t .short low high (ltb-true _ _ e) .answer))
@@ -85,16 +79,12 @@ pub came-ran : {n : ℕ} {ws before after : List ℕ} {r : Done} → Ran n ws be
 came-ran {n} {ws} t h = let d = drew t h in record { plan = drawn n (callsIn ws); reached = d .0; is = d .1 }
 
 -- the two ways a list of calls ends
-pub turned-away : {n : ℕ} {ws saidBefore saidAfter before refusal : List ℕ} {done : Done} {w : Written} {r : ℕ} (f : Refusal) (p : ℕ) → Ran n ws saidBefore saidAfter done → done .answer ≡ Answer.Refused f p →
-    w ≡ nothingFor (done .answer) → r ≡ countOf w → refusal ≡ refusalOf w → CallsExported n ws saidBefore saidAfter before before r refusal
-turned-away {done = done} {w = w} f p t h e c g =
-    record {
-      done = done;
-      ran = t;
-      written = record { written = w; wrote = rw (e, h) (turned _ f p); count = c; place = g };
-    }
+pub turned-away : {n : ℕ} {ws saidBefore saidAfter before refusal : List ℕ} {done : Done} {r : ℕ} (f : Refusal) (p : ℕ) → Ran n ws saidBefore saidAfter done → done .answer ≡ Answer.Refused f p →
+    r ≡ 0 → refusal ≡ refusalWords answersBuffer f p → CallsExported n ws saidBefore saidAfter before before r refusal
+turned-away {done = done} f p t h c g =
+    record { done = done; ran = t; written = record { written = Refused f p; wrote = rw h (turned _ f p); count = c; place = rw h g } }
 
 pub went-through : {n : ℕ} {ws saidBefore saidAfter before after refusal : List ℕ} {done : Done} {w : Written} {r : ℕ} → Ran n ws saidBefore saidAfter done → done .answer ≡ Accepted →
-    Wrote before (writeDrawing (drawn n (callsIn ws))) after w → r ≡ countOf w → refusal ≡ refusalOf w → CallsExported n ws saidBefore saidAfter before after r refusal
+    Wrote before (writeDrawing (drawn n (callsIn ws))) after w → r ≡ codeOf (fileGiven w) → refusal ≡ refusalOf outputBuffer (fileGiven w) → CallsExported n ws saidBefore saidAfter before after r refusal
 went-through {done = done} {w = w} t h k c g =
-    record { done = done; ran = t; written = record { written = w; wrote = rw h k; count = c; place = g } }
+    record { done = done; ran = t; written = record { written = w; wrote = rw h k; count = c; place = rw h g } }

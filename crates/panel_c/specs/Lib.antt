@@ -1,2 +1,3 @@
 pub mod Exported
-pub mod Moving
+pub mod Asking
+pub mod Questions

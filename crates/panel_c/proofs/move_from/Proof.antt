@@ -25,7 +25,7 @@ look-move-requires c κs =
     record { came = came (s .before); settled = s .settled .ensures }
 
 returns : tie.Need-returns
-returns c = λ q is. rw (c .before .answer .given .1) (refl, refl)
+returns c = λ q is. rw (c .before .answer .given .1) refl
 
 returns-2 : tie.Need-returns-2
 returns-2 c =

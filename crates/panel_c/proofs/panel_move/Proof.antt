@@ -1,26 +1,23 @@
 -- `panel_move` meets its contract.
-use Rattle.drawing.specs.Opens.{came-given}
-use Rattle.panel_c.specs.Moving.{from-order}
+use mathlib.Core.Path.{refl}
 use borrow.Author.Needs.{needs}
+use Rattle.panel_c.specs.Asking.{came-read, of-order}
 use Rattle.panel_c.proofs.panel_move.Statement.{statement}
 use Rattle.panel_c.proofs.panel_move.Tie as tie
 
-drawing-of-requires : tie.Need-drawing-of-requires
-drawing-of-requires c κs = search needs
+read-order-requires : tie.Need-read-order-requires
+read-order-requires c κs = refl
 
 move-from-requires : tie.Need-move-from-requires
-move-from-requires c κs = λ e. came-given (c .before .before .before .before .drawing-of .ensures) e
+move-from-requires c κs = λ e. came-read _ _ _ (c .before .read-order .ensures) e
 
-tell-requires : tie.Need-tell-requires
-tell-requires c κs = search needs
+tell-move-requires : tie.Need-tell-move-requires
+tell-move-requires c κs = search needs
 
 returns : tie.Need-returns
 returns c =
-    let m = c .before .before .before in
-    let d = m .before .before .before .before .before in
-    let o = d .before .before .args in
-    let t = c .tell .ensures in
-    record { moved = m .move-from .result; seen = from-order (record { pitch = o .pitch; depth = o .depth; clearance = o .clearance }) (o .number) (m .move-from .result) (d .drawing-of .ensures) (m .move-from .ensures); kind = t .0; numbers = t .1; place = t .2 }
+    let f = c .before .before .before in
+    of-order _ (f .move-from .result) _ _ (f .before .before .read-order .ensures) (f .move-from .ensures) (c .tell-move .ensures)
 
 pub panel-move-spec : {M : Type 1} → statement M
-panel-move-spec = tie.close (tie.spec drawing-of-requires move-from-requires tell-requires returns)
+panel-move-spec = tie.close (tie.spec read-order-requires move-from-requires tell-move-requires returns)

@@ -1,8 +1,8 @@
--- `tell` meets its contract.
+-- `tell_move` meets its contract.
 use mathlib.Core.Path.{refl}
 use borrow.Author.Needs.{needs}
-use Rattle.panel_c.proofs.tell.Statement.{statement}
-use Rattle.panel_c.proofs.tell.Tie as tie
+use Rattle.panel_told.proofs.tell_move.Statement.{statement}
+use Rattle.panel_told.proofs.tell_move.Tie as tie
 
 enum-known-moved : tie.Need-enum-known-moved
 enum-known-moved c = search needs
@@ -22,34 +22,34 @@ enum-known-m-4 c = search needs
 enum-known-moved-2 : tie.Need-enum-known-moved-2
 enum-known-moved-2 c = search needs
 
-place-requires : tie.Need-place-requires
-place-requires c κs = search needs
+refuse-requires : tie.Need-refuse-requires
+refuse-requires c κs = search needs
 
 returns : tie.Need-returns
 returns c =
     let m = c .before .before in
-    rw (m .before .before .before .before .moved .given .1, m .m .given .1) (refl, refl, refl)
+    rw (m .before .before .before .before .moved .given .1, m .m .given .1) (record { code = refl; words = refl; place = refl })
 
 returns-2 : tie.Need-returns-2
 returns-2 c =
     let m = c .before .before in
-    rw (m .before .before .before .before .moved .given .1, m .m2 .given .1) (refl, refl, refl)
+    rw (m .before .before .before .before .moved .given .1, m .m2 .given .1) (record { code = refl; words = refl; place = refl })
 
 returns-3 : tie.Need-returns-3
 returns-3 c =
     let m = c .before .before in
-    rw (m .before .before .before .before .moved .given .1, m .m3 .given .1) (refl, refl, refl)
+    rw (m .before .before .before .before .moved .given .1, m .m3 .given .1) (record { code = refl; words = refl; place = refl })
 
 returns-4 : tie.Need-returns-4
 returns-4 c =
     let m = c .before .before in
-    rw (m .before .before .before .before .moved .given .1, m .m4 .given .1) (refl, refl, refl)
+    rw (m .before .before .before .before .moved .given .1, m .m4 .given .1) (record { code = refl; words = refl; place = refl })
 
 returns-5 : tie.Need-returns-5
-returns-5 c = rw (c .before .before .before .moved2 .given .1, c .place .ensures) (refl, refl, refl)
+returns-5 c = rw (c .before .before .before .moved2 .given .1) (record { code = refl; words = refl; place = c .refuse .ensures })
 
-pub tell-spec : {M : Type 1} → statement M
-tell-spec =
+pub tell-move-spec : {M : Type 1} → statement M
+tell-move-spec =
     tie.close
     (tie.spec
     enum-known-moved
@@ -58,7 +58,7 @@ tell-spec =
     enum-known-m-3
     enum-known-m-4
     enum-known-moved-2
-    place-requires
+    refuse-requires
     returns
     returns-2
     returns-3

@@ -1,0 +1,36 @@
+-- The four questions: a move, a point's place, a line, and a cut line that ends at a point.
+use Prim.Native.Nat.{ℕ}
+use mathlib.Core.Path.{_≡_}
+use lib.Ieee.{Float}
+use Rattle.rules.specs.Lookups.{lookPoint, lookLine, LooksCut}
+use Rattle.rules.specs.Moves.{moveAt}
+use Rattle.drawing.specs.declared.PointSeen.{PointSeen}
+use Rattle.drawing.specs.declared.PointSeen.the-variants as Point
+use Rattle.drawing.specs.declared.LineSeen.{LineSeen}
+use Rattle.drawing.specs.declared.LineSeen.the-variants as Line
+use Rattle.drawing.specs.declared.CutSeen.{CutSeen}
+use Rattle.drawing.specs.declared.CutSeen.the-variants as Cut
+use Rattle.drawing.specs.View.{pointSeen, lineSeen, toldCut}
+use Rattle.tool.specs.declared.Tool.{Tool}
+use Rattle.tool.specs.Checking.{wholeTool}
+use Rattle.cutter.specs.declared.Moved.{Moved}
+use Rattle.cutter.specs.declared.Moved.the-variants as Moved
+use Rattle.cutter.specs.Seen.{MoveSeen}
+use Rattle.panel_told.specs.Answers.{moveGiven, pointGiven, lineGiven, cutGiven}
+use Rattle.panel_c.specs.Asking.{Question}
+
+-- "Moves are numbered from 0 through the cut lines in line order, and given one at a time by number"
+abbrev pub moveAsked : Tool → ℕ → Question Moved Float
+moveAsked t i = record { right = λ q m. MoveSeen m (moveAt q (wholeTool t) i); turned = Moved.Refused; given = moveGiven }
+
+-- "Look-ups give, in grid units, a point's place"
+abbrev pub pointAsked : ℕ → Question PointSeen ℕ
+pointAsked p = record { right = λ q s. s ≡ pointSeen (lookPoint q p); turned = Point.Refused; given = pointGiven }
+
+-- "a line's ends, bend and cut flag"
+abbrev pub lineAsked : ℕ → Question LineSeen ℕ
+lineAsked e = record { right = λ q s. s ≡ lineSeen (lookLine q e); turned = Line.Refused; given = lineGiven }
+
+-- "and some cut line ending at a given point, or none exactly if there is none; which one is free"
+abbrev pub cutAsked : ℕ → Question CutSeen ℕ
+cutAsked p = record { right = λ q s. LooksCut q p (toldCut s); turned = Cut.Refused; given = cutGiven }

@@ -1,0 +1,10 @@
+-- `wide` meets its contract.
+use borrow.Author.Needs.{needs}
+use Rattle.panel_told.proofs.wide.Statement.{statement}
+use Rattle.panel_told.proofs.wide.Tie as tie
+
+returns : tie.Need-returns
+returns c = search needs
+
+pub wide-spec : {M : Type 1} → statement M
+wide-spec = tie.close (tie.spec returns)

@@ -1,0 +1,63 @@
+-- What C is told of each answer: "Where the answer is an enum, there is a definition that gives this paper's number and values for each of its cases."
+use Prim.Native.Nat.{ℕ}
+use mathlib.Core.List.{List, [], _∷_}
+use lib.Ieee.{Float, binary32, ofBits}
+use Rattle.rules.specs.declared.Bend.{Bend}
+use Rattle.rules.specs.declared.Bend.the-variants.{Left, Right, Middle, Straight}
+use Rattle.rules.specs.Basics.{if_then_else_}
+use Rattle.rules.specs.Refusals.{Result, good, refused}
+use Rattle.drawing.specs.declared.PointSeen.{PointSeen}
+use Rattle.drawing.specs.declared.PointSeen.the-variants as Point
+use Rattle.drawing.specs.declared.LineSeen.{LineSeen}
+use Rattle.drawing.specs.declared.LineSeen.the-variants as Line
+use Rattle.drawing.specs.declared.CutSeen.{CutSeen}
+use Rattle.drawing.specs.declared.CutSeen.the-variants as Cut
+use Rattle.panel.specs.declared.Written.{Written}
+use Rattle.panel.specs.declared.Written.the-variants as Written
+use Rattle.tool.specs.declared.Move.the-variants as Move
+use Rattle.cutter.specs.declared.Moved.{Moved}
+use Rattle.cutter.specs.declared.Moved.the-variants as Moved
+use Rattle.panel_told.specs.Telling.{Given, withWords, alone}
+
+-- a file that was written: the number of its bytes
+abbrev pub fileGiven : Written → Result (Given ℕ)
+fileGiven (Written.Bytes k) = good (alone k)
+fileGiven (Written.Refused r p) = refused r p
+
+-- 1 travel and 3 cut with two coordinates, 2 plunge and 4 lift with a height and 0
+abbrev pub moveGiven : Moved → Result (Given Float)
+moveGiven (Moved.Made (Move.Travel x y)) = good (withWords 1 (x ∷ y ∷ []))
+moveGiven (Moved.Made (Move.Plunge z)) = good (withWords 2 (z ∷ ofBits binary32 0 ∷ []))
+moveGiven (Moved.Made (Move.Cut x y)) = good (withWords 3 (x ∷ y ∷ []))
+moveGiven (Moved.Made (Move.Lift z)) = good (withWords 4 (z ∷ ofBits binary32 0 ∷ []))
+moveGiven (Moved.Refused r p) = refused r p
+
+-- "in grid units, a point's place"
+abbrev pub pointGiven : PointSeen → Result (Given ℕ)
+pointGiven (Point.At a) = good (withWords 1 (a .x ∷ a .y ∷ []))
+pointGiven (Point.Refused r p) = refused r p
+
+-- "A line's bend is at a left, right or middle port, or it has none"
+abbrev pub kindOf : Bend → ℕ
+kindOf Straight = 0
+kindOf (Left j) = 1
+kindOf (Right j) = 2
+kindOf (Middle i) = 3
+
+-- the port's index
+abbrev pub portOf : Bend → ℕ
+portOf Straight = 0
+portOf (Left j) = j
+portOf (Right j) = j
+portOf (Middle i) = i
+
+-- "a line's ends, bend and cut flag"
+abbrev pub lineGiven : LineSeen → Result (Given ℕ)
+lineGiven (Line.Seen l a) = good (withWords 1 (l .later ∷ l .earlier ∷ kindOf (l .bend) ∷ portOf (l .bend) ∷ a .x ∷ a .y ∷ (if l .cut then 1 else 0) ∷ []))
+lineGiven (Line.Refused r p) = refused r p
+
+-- "some cut line ending at a given point, or none"
+abbrev pub cutGiven : CutSeen → Result (Given ℕ)
+cutGiven (Cut.Line e) = good (withWords 1 (e ∷ []))
+cutGiven Cut.Nothing = good (alone 2)
+cutGiven (Cut.Refused r p) = refused r p

@@ -1,0 +1,197 @@
+// What C is told of an answer: a number, the words of the answer in the caller's array, and three words of a refusal, 0, 0, 0 for none.
+// A refusal is the number 0 and leaves the array. For `panel_c`, which has the answers.
+use cutter::Moved;
+use drawing::CutSeen;
+use drawing::LineSeen;
+use drawing::PointSeen;
+use panel::Written;
+use rules::Bend;
+use rules::Refusal;
+use tool::Move;
+ghost use mathlib.Core.Path.{_≡_};
+ghost use Rattle.rules.specs.Basics.{if_then_else_};
+ghost use Rattle.panel_told.specs.Telling.{shortOf, refusalWords, codeOf, refusalOf, Tells};
+ghost use Rattle.panel_told.specs.Answers.{fileGiven, moveGiven, pointGiven, kindOf, portOf, lineGiven, cutGiven};
+
+// The buffer that a call can find too short.
+pub const NO_BUFFER: u64 = 0;
+
+pub const OUTPUT: u64 = 1;
+
+pub const ANSWERS: u64 = 2;
+
+// Which buffer was short: 0 unless the refusal is 24.
+fn short_of(r: Refusal, buffer: u64) -> u64
+    ensures { λ v. ⌜ v ≡ shortOf buffer r ⌝ }
+{
+    if rules::refusal_number(r) == rules::refusal_number(Refusal::OutputShort) {
+        buffer
+    } else {
+        0
+    }
+}
+
+// The three words of a refusal: number, place, and which buffer was short.
+fn refuse(r: Refusal, p: usize, buffer: u64, refusal: &mut [u64; 3])
+    ensures { λ _. ⌜ now (refusal .exit) ≡ refusalWords buffer r p ⌝ }
+{
+    let number = rules::refusal_number(r) as u64;
+    let at = p as u64;
+    let short = short_of(r, buffer);
+    *refusal = [number, at, short];
+}
+
+// The number of bytes written.
+pub fn tell_written(written: Written, buffer: u64, refusal: &mut [u64; 3]) -> u64
+    ensures { λ r. ⌜ (r ≡ codeOf (fileGiven written)) × (now (refusal .exit) ≡ refusalOf buffer (fileGiven written)) ⌝ }
+{
+    match written {
+        Written::Bytes(k) => {
+            *refusal = [0, 0, 0];
+            k as u64
+        }
+        Written::Refused(r, p) => {
+            refuse(r, p, buffer, refusal);
+            0
+        }
+    }
+}
+
+// A move: 1 to 4, and its two coordinates or its height and 0.
+pub fn tell_move(moved: Moved, buffer: u64, at: &mut [f32; 2], refusal: &mut [u64; 3]) -> u64
+    ensures { λ r. ⌜ Tells buffer (moveGiven moved) (now (at .entry)) (now (at .exit)) r (now (refusal .exit)) ⌝ }
+{
+    match moved {
+        Moved::Made(m) => {
+            *refusal = [0, 0, 0];
+            match m {
+                Move::Travel(x, y) => {
+                    *at = [x, y];
+                    1
+                }
+                Move::Plunge(z) => {
+                    *at = [z, 0.0];
+                    2
+                }
+                Move::Cut(x, y) => {
+                    *at = [x, y];
+                    3
+                }
+                Move::Lift(z) => {
+                    *at = [z, 0.0];
+                    4
+                }
+            }
+        }
+        Moved::Refused(r, p) => {
+            refuse(r, p, buffer, refusal);
+            0
+        }
+    }
+}
+
+// A stored number as a word for C.
+fn wide(x: u16) -> u64
+    ensures { λ r. ⌜ r ≡ x ⌝ }
+{
+    x as u64
+}
+
+// A point's place: 1, and its x and y.
+pub fn tell_point(found: PointSeen, buffer: u64, seen: &mut [u64; 2], refusal: &mut [u64; 3]) -> u64
+    ensures { λ r. ⌜ Tells buffer (pointGiven found) (now (seen .entry)) (now (seen .exit)) r (now (refusal .exit)) ⌝ }
+{
+    match found {
+        PointSeen::At(place) => {
+            let x = wide(place.x);
+            let y = wide(place.y);
+            *seen = [x, y];
+            *refusal = [0, 0, 0];
+            1
+        }
+        PointSeen::Refused(r, p) => {
+            refuse(r, p, buffer, refusal);
+            0
+        }
+    }
+}
+
+// The kind of a bend: 0 straight, 1 at a left port, 2 at a right port, 3 at a middle port.
+fn kind_of(b: Bend) -> u64
+    ensures { λ r. ⌜ r ≡ kindOf b ⌝ }
+{
+    match b {
+        Bend::Straight => 0,
+        Bend::Left(_) => 1,
+        Bend::Right(_) => 2,
+        Bend::Middle(_) => 3,
+    }
+}
+
+// The index of its port, 0 for straight.
+fn port_of(b: Bend) -> u64
+    ensures { λ r. ⌜ r ≡ portOf b ⌝ }
+{
+    match b {
+        Bend::Straight => 0,
+        Bend::Left(j) => wide(j),
+        Bend::Right(j) => wide(j),
+        Bend::Middle(i) => wide(i),
+    }
+}
+
+// How a line is marked: 1 for cut, 0 for guide.
+fn mark_of(cut: bool) -> u64
+    ensures { λ r. ⌜ r ≡ (if cut then 1 else 0) ⌝ }
+{
+    if cut { 1 } else { 0 }
+}
+
+// A line: 1, and its later point, its earlier point, the kind of its bend, the port's index, the bend's x and y, and its mark.
+pub fn tell_line(found: LineSeen, buffer: u64, seen: &mut [u64; 7], refusal: &mut [u64; 3]) -> u64
+    ensures { λ r. ⌜ Tells buffer (lineGiven found) (now (seen .entry)) (now (seen .exit)) r (now (refusal .exit)) ⌝ }
+{
+    match found {
+        LineSeen::Seen(l, bend) => {
+            let later = wide(l.later);
+            let earlier = wide(l.earlier);
+            let b = l.bend;
+            let kind = kind_of(b);
+            let port = port_of(b);
+            let x = wide(bend.x);
+            let y = wide(bend.y);
+            let mark = mark_of(l.cut);
+            *seen = [later, earlier, kind, port, x, y, mark];
+            *refusal = [0, 0, 0];
+            1
+        }
+        LineSeen::Refused(r, p) => {
+            refuse(r, p, buffer, refusal);
+            0
+        }
+    }
+}
+
+// What C is told where there is no cut line.
+const NO_CUT_LINE: u64 = 2;
+
+// A cut line: 1 and its number; or that there is none.
+pub fn panel_toldut(found: CutSeen, buffer: u64, seen: &mut [u64; 1], refusal: &mut [u64; 3]) -> u64
+    ensures { λ r. ⌜ Tells buffer (cutGiven found) (now (seen .entry)) (now (seen .exit)) r (now (refusal .exit)) ⌝ }
+{
+    match found {
+        CutSeen::Line(e) => {
+            *seen = [e as u64];
+            *refusal = [0, 0, 0];
+            1
+        }
+        CutSeen::Nothing => {
+            *refusal = [0, 0, 0];
+            NO_CUT_LINE
+        }
+        CutSeen::Refused(r, p) => {
+            refuse(r, p, buffer, refusal);
+            0
+        }
+    }
+}
