@@ -1,17 +1,22 @@
 /* Draws the order file on standard input, as the program `draw` does, by the library for C:
-   cc -o draw_c examples/draw.c target/staticlib/libpanel_c.a */
+   cc -Iinclude -o target/draw_c examples/draw.c target/staticlib/libpanel_c.a */
+#include <inttypes.h>
 #include <stdio.h>
 #include "panel.h"
 
 int main(void)
 {
-    static uint8_t order[32768], drawing[42948];
-    uint64_t refusal[2];
+    static uint8_t order[PANEL_ORDER_INPUT], drawing[PANEL_LONGEST_DRAWING];
+    struct panel_refusal refusal;
     size_t length = fread(order, 1, sizeof order, stdin);
-    uint64_t written = panel_draw(order, length, drawing, sizeof drawing, refusal);
-    if (refusal[0] != 0) {
-        printf("refused %d at %d\n", (int)refusal[0], (int)refusal[1]);
-        return 0;
+    size_t written = panel_draw(order, length, drawing, sizeof drawing, &refusal);
+    if (refusal.number != 0)
+        printf("refused %" PRIu64 " at %" PRIu64 "\n", refusal.number, refusal.place);
+    else
+        fwrite(drawing, 1, written, stdout);
+    if (fflush(stdout) != 0 || ferror(stdout)) {
+        perror("draw_c: standard output");
+        return 1;
     }
-    return fwrite(drawing, 1, written, stdout) == written ? 0 : 1;
+    return 0;
 }

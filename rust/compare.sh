@@ -1,9 +1,24 @@
 #!/usr/bin/env bash
 # Compares the proved library with the second implementation: compare.sh ROUNDS (1 if not given) times as many random cases.
-# Then draws the example from C.
+# Then runs the examples from C, and from C++ if there is a compiler for it.
 set -eu
 cd "$(dirname "$0")/.."
 rt staticlib panel_c
-PANEL_ROUNDS=${1:-1} cargo test --release --offline --manifest-path rust/Cargo.toml
-cc -std=c99 -Wall -Wextra -Werror -o target/draw_c examples/draw.c target/staticlib/libpanel_c.a
+PANEL_ROUNDS=${1:-1} cargo test --release --offline --workspace --manifest-path rust/Cargo.toml
+
+library=target/staticlib/libpanel_c.a
+options='-Wall -Wextra -Werror -Iinclude'
+cc -std=c99 $options -o target/draw_c examples/draw.c "$library"
+cc -std=c99 $options -o target/look_c examples/look.c "$library"
 target/draw_c <examples/k4.order | cmp - examples/k4.drawing
+target/look_c 4 <examples/k4.order | diff - <(
+    printf '%s\n' 'point 4 at (5,3)' 'line 3: 4 to 1, cut' 'line 4: 4 to 3, cut' 'line 6: 5 to 4, cut'
+)
+if target/draw_c <examples/k4.order >/dev/full 2>/dev/null; then
+    echo "compare.sh: draw_c does not tell a failed write" >&2
+    exit 1
+fi
+if command -v c++ >/dev/null; then
+    c++ -std=c++11 $options -o target/draw_cpp -x c++ examples/draw.c -x none "$library"
+    target/draw_cpp <examples/k4.order | cmp - examples/k4.drawing
+fi

@@ -262,7 +262,7 @@ pub extern "C" fn panel_cut_line(
     let read = read_orders::read_order(order, &mut table);
     let answer = read.answer;
     let found = cut_from(answer, &table, read.counts, point);
-    panel_told::panel_toldut(found, NO_BUFFER, seen, refusal)
+    panel_told::tell_cut(found, NO_BUFFER, seen, refusal)
 }
 
 // The same of the drawing that a list of calls leaves, finished or not.
@@ -283,5 +283,5 @@ pub extern "C" fn panel_calls_cut_line(
     let made = calls::run_in(&mut table, n, calls, answers);
     let answer = made.answer;
     let found = cut_from(answer, &table, made.counts, point);
-    panel_told::panel_toldut(found, ANSWERS, seen, refusal)
+    panel_told::tell_cut(found, ANSWERS, seen, refusal)
 }

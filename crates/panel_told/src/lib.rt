@@ -176,7 +176,7 @@ pub fn tell_line(found: LineSeen, buffer: u64, seen: &mut [u64; 7], refusal: &mu
 const NO_CUT_LINE: u64 = 2;
 
 // A cut line: 1 and its number; or that there is none.
-pub fn panel_toldut(found: CutSeen, buffer: u64, seen: &mut [u64; 1], refusal: &mut [u64; 3]) -> u64
+pub fn tell_cut(found: CutSeen, buffer: u64, seen: &mut [u64; 1], refusal: &mut [u64; 3]) -> u64
     ensures { λ r. ⌜ Tells buffer (cutGiven found) (now (seen .entry)) (now (seen .exit)) r (now (refusal .exit)) ⌝ }
 {
     match found {

@@ -23,7 +23,7 @@ fn main() {
         let draws = files.iter().map(|(order, drawing)| {
             times(
                 drawing,
-                |out| panel::draw(black_box(order), out).ok(),
+                |out| panel::draw_into(black_box(order), out).ok(),
                 |out| second::draw(black_box(order), out).ok(),
             )
         });
@@ -31,7 +31,7 @@ fn main() {
         let undraws = files.iter().map(|(order, drawing)| {
             times(
                 order,
-                |out| panel::undraw(black_box(drawing), out).ok(),
+                |out| panel::undraw_into(black_box(drawing), out).ok(),
                 |out| second::undraw(black_box(drawing), out).ok(),
             )
         });
@@ -42,7 +42,7 @@ fn main() {
 /// The order file and the drawing file of a random order.
 fn files(n: u16, style: Style) -> (Vec<u8>, Vec<u8>) {
     let order = order(n, style, &mut Random::new(1)).bytes();
-    let mut drawing = vec![0; 42 * usize::from(n) - 60];
+    let mut drawing = vec![0; panel::drawing_length(n.into())];
     assert_eq!(second::draw(&order, &mut drawing), Ok(drawing.len()));
     (order, drawing)
 }

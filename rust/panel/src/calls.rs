@@ -1,7 +1,8 @@
 //! Lists of adding calls.
 
-use crate::raw::panel_calls;
-use crate::refusal::{given, Refusal};
+use crate::raw::{panel_calls, SHORT_ANSWERS};
+use crate::refusal::Refusal;
+use crate::sizes::{drawing_length, ANSWER_WORDS, FEWEST_POINTS, MOST_POINTS};
 
 /// What a list of calls gave.
 #[derive(Clone, Debug, PartialEq, Eq)]
@@ -18,7 +19,7 @@ pub struct Called {
 /// let called = panel::calls(4, &[vec![1, 3], vec![1, 3, 2]])?;
 /// let refused = panel::Refusal { number: 9, place: 0 };
 /// assert_eq!(called.answers, [Err(refused), Ok(())]);
-/// assert_eq!(called.drawing?.len(), 42 * 4 - 60);
+/// assert_eq!(called.drawing?.len(), panel::drawing_length(4));
 /// # Ok::<(), panel::Refusal>(())
 /// ```
 ///
@@ -31,41 +32,54 @@ pub fn calls<Entries: AsRef<[u16]>>(n: usize, calls: &[Entries]) -> Result<Calle
         words.push(u16::try_from(entries.len()).expect("a call has at most 65,535 entries"));
         words.extend_from_slice(entries);
     }
-    let mut answers = vec![0; 2 * calls.len()];
-    let mut drawing = vec![0; 42 * n.clamp(3, 1024) - 60];
-    let written = calls_in_words(n, &words, &mut answers, &mut drawing);
-    match written {
-        Err(refusal) if refusal.number == 3 => Err(refusal),
-        written => Ok(Called {
-            answers: answers.chunks(2).map(answer).collect(),
-            drawing: written.map(|length| {
-                drawing.truncate(length);
-                drawing
-            }),
+    let mut answers = vec![0; ANSWER_WORDS * calls.len()];
+    let mut drawing = vec![0; drawing_length(n.clamp(FEWEST_POINTS, MOST_POINTS))];
+    let written = calls_in_words(n, &words, &mut answers, &mut drawing)?;
+    Ok(Called {
+        answers: answers.chunks(ANSWER_WORDS).map(answer).collect(),
+        drawing: written.map(|length| {
+            drawing.truncate(length);
+            drawing
         }),
-    }
+    })
 }
 
 /// An answer from its two words.
 fn answer(words: &[u16]) -> Result<(), Refusal> {
-    Refusal::said([words[0].into(), words[1].into()])
+    Refusal::said(words[0].into(), words[1].into())
 }
 
-/// The same in words, with no allocation.
+/// The same in words, with no allocation; gives the number of bytes of the drawing file in `out`.
 ///
 /// `calls` has a count, then that many entries, one call after another; a last call that is cut off
 /// has the entries that are left. `answers` gets two words a call, number and place, 0 and 0 for
-/// accepted; if it is too short, 24 at 0 is the answer and nothing changes. Then the drawing file
-/// goes to `out`: 22 while points are missing, 24 if `out` is too short, the answers written all the
-/// same.
+/// accepted.
+///
+/// The outer refusal is that of the list: 3 if n is out of range, 24 if `answers` is too short, and
+/// nothing changes. The inner one is that of the drawing file: 22 while points are missing, 24 if
+/// `out` is too short; the answers are written, and `out` stays.
+///
+/// ```
+/// use panel::{calls_in_words, Refusal};
+///
+/// let calls = [3, 1, 3, 2]; // one call of three entries
+/// let (mut answers, mut out) = ([9; 2], [0; panel::drawing_length(4)]);
+/// assert_eq!(calls_in_words(4, &calls, &mut answers, &mut out), Ok(Ok(108)));
+/// assert_eq!(answers, [0, 0]);
+///
+/// let short = Refusal { number: 24, place: 0 };
+/// assert_eq!(calls_in_words(4, &calls, &mut answers[..1], &mut out), Err(short));
+/// assert_eq!(calls_in_words(4, &calls, &mut answers, &mut out[..1]), Ok(Err(short)));
+/// ```
 pub fn calls_in_words(
     n: usize,
     calls: &[u16],
     answers: &mut [u16],
     out: &mut [u8],
-) -> Result<usize, Refusal> {
+) -> Result<Result<usize, Refusal>, Refusal> {
+    let mut refusal = [0; 3];
     // SAFETY: pointers and lengths are those of borrowed slices.
-    let written = given(|refusal| unsafe {
+    let written = unsafe {
         panel_calls(
             n,
             calls.as_ptr(),
@@ -74,8 +88,12 @@ pub fn calls_in_words(
             answers.len(),
             out.as_mut_ptr(),
             out.len(),
-            refusal,
+            &mut refusal,
         )
-    })?;
-    Ok(written as usize)
+    };
+    let [number, place, buffer] = refusal;
+    match Refusal::said(number, place) {
+        Err(refusal) if number == 3 || buffer == SHORT_ANSWERS => Err(refusal),
+        said => Ok(said.map(|()| written as usize)),
+    }
 }

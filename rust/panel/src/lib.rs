@@ -1,11 +1,12 @@
 //! One-bend panel drawings by the proved library: order files to drawing files and back, lists of
-//! adding calls, and cutter moves.
+//! adding calls, look-ups of points and lines, and cutter moves.
 //!
 //! Every answer is a value or a [`Refusal`] with document 01's number and place. A refusal changes no
-//! byte of an output, and bytes past the written ones stay.
+//! byte of an output, and bytes past the written ones stay. Functions whose names begin with `calls`
+//! take a list of adding calls where the others take an order file.
 //!
 //! ```
-//! use panel::{draw, moves, undraw, Move, Refusal, Tool};
+//! use panel::{draw, line, moves, point, undraw, Bend, Move, Place, Refusal, Tool};
 //!
 //! // Three points: 1, then 2 joined to 1, then 3 joined to 1 and 2.
 //! let order = [
@@ -26,16 +27,17 @@
 //!     0x45, 0x4E,
 //! ];
 //!
-//! let mut out = [0; 100];
-//! assert_eq!(draw(&order, &mut out), Ok(66));
-//! assert_eq!(out[..66], drawing);
-//! assert_eq!(undraw(&drawing, &mut out), Ok(24));
-//! assert_eq!(out[..24], order);
+//! assert_eq!(draw(&order)?, drawing);
+//! assert_eq!(undraw(&drawing)?, order);
 //!
 //! // A file that ends inside the record at offset 8 is refused.
 //! let refused = Refusal { number: 1, place: 8 };
-//! assert_eq!(draw(&order[..10], &mut out), Err(refused));
+//! assert_eq!(draw(&order[..10]), Err(refused));
 //! assert_eq!(refused.to_string(), "refused 1 at 8");
+//!
+//! // Points count from 1, lines from 0.
+//! assert_eq!(point(&order, 3)?, Place { x: 3, y: 2 });
+//! assert_eq!(line(&order, 1)?.bend, Bend::Right(1));
 //!
 //! // A grid unit of one millimetre, half a millimetre deep, one above the panel between lines.
 //! let tool = Tool { pitch: 8.0, depth: 4.0, clearance: 8.0 };
@@ -49,11 +51,20 @@
 
 mod calls;
 mod files;
+mod lookups;
 mod moves;
 pub mod raw;
 mod refusal;
+mod sizes;
 
 pub use calls::{calls, calls_in_words, Called};
-pub use files::{draw, undraw};
+pub use files::{draw, draw_into, undraw, undraw_into};
+pub use lookups::{
+    calls_cut_line, calls_line, calls_point, cut_line, line, point, Bend, Line, Place,
+};
 pub use moves::{calls_move_at, move_at, moves, Move, Moves, Tool};
 pub use refusal::Refusal;
+pub use sizes::{
+    drawing_length, line_count, ANSWER_WORDS, FEWEST_POINTS, LONGEST_DRAWING, LONGEST_ORDER,
+    MOST_POINTS,
+};

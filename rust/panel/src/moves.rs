@@ -1,7 +1,7 @@
 //! Cutter moves.
 
 use crate::raw::{panel_calls_move, panel_move, Words};
-use crate::refusal::{given, Refusal};
+use crate::refusal::{given_with, Refusal};
 
 /// Document 01: "a tool is three whole numbers of eighths of a millimetre, pitch 1 to 80, depth 1 to
 /// 40, clearance 1 to 80, held as f32".
@@ -27,9 +27,7 @@ pub enum Move {
 
 /// The move that a function of the library gives by its kind and numbers, unless it refuses.
 fn given_move(call: impl FnOnce(&mut [f32; 2], &mut Words) -> u64) -> Result<Move, Refusal> {
-    let mut at = [0.0; 2];
-    let kind = given(|refusal| call(&mut at, refusal))?;
-    let [x, y] = at;
+    let (kind, [x, y]) = given_with(call)?;
     Ok(match kind {
         1 => Move::Travel(x, y),
         2 => Move::Plunge(x),
@@ -41,6 +39,16 @@ fn given_move(call: impl FnOnce(&mut [f32; 2], &mut Words) -> u64) -> Result<Mov
 
 /// A move of the drawing of an order file, by number from 0. Refused are what [`draw`](crate::draw)
 /// refuses, then 12 for the tool, 23 if there is no such move.
+///
+/// ```
+/// use panel::{move_at, Move, Tool};
+///
+/// let order = b"HD\0\x03PT\0\0PT\0\x01\0\x01PT\0\x02\0\x01\0\x02EN";
+/// let tool = Tool { pitch: 8.0, depth: 4.0, clearance: 8.0 };
+/// assert_eq!(move_at(order, tool, 0)?, Move::Travel(6.0, 0.0));
+/// assert_eq!(move_at(order, tool, 15).unwrap_err().number, 23);
+/// # Ok::<(), panel::Refusal>(())
+/// ```
 pub fn move_at(order: &[u8], tool: Tool, number: usize) -> Result<Move, Refusal> {
     let (from, length) = (order.as_ptr(), order.len());
     let Tool {
@@ -54,9 +62,20 @@ pub fn move_at(order: &[u8], tool: Tool, number: usize) -> Result<Move, Refusal>
     })
 }
 
-/// A move, by number from 0, of the drawing that a list of calls made; calls and answers in words as
-/// in [`calls_in_words`](crate::calls_in_words). Refused are 3 and 24 as there, then 12 for the tool,
-/// 22 while points are missing, 23 if there is no such move.
+/// A move, by number from 0, of the drawing that a list of calls leaves; calls and answers in words
+/// as in [`calls_in_words`](crate::calls_in_words). Refused are 3, and 24 if `answers` is too short,
+/// and nothing changes; then 12 for the tool, 22 while points are missing, 23 if there is no such
+/// move, the answers written all the same.
+///
+/// ```
+/// use panel::{calls_move_at, Move, Tool};
+///
+/// let tool = Tool { pitch: 8.0, depth: 4.0, clearance: 8.0 };
+/// let mut answers = [0; 2];
+/// let first = calls_move_at(4, &[3, 1, 3, 2], &mut answers, tool, 0)?;
+/// assert_eq!(first, Move::Travel(8.0, 0.0));
+/// # Ok::<(), panel::Refusal>(())
+/// ```
 pub fn calls_move_at(
     n: usize,
     calls: &[u16],
@@ -85,6 +104,16 @@ pub fn calls_move_at(
 /// All moves of the drawing of an order file; refused as [`move_at`] is, with none for a drawing
 /// that has no cut line. Each step draws the order again, so all moves of n points take time that
 /// grows with the square of n.
+///
+/// ```
+/// use panel::{moves, Move, Tool};
+///
+/// let order = b"HD\0\x03PT\0\0PT\0\x01\0\x01PT\0\x02\0\x01\0\x02EN";
+/// let tool = Tool { pitch: 8.0, depth: 4.0, clearance: 8.0 };
+/// let lifts = moves(order, tool)?.filter(|step| matches!(step, Move::Lift(_)));
+/// assert_eq!(lifts.count(), 3);
+/// # Ok::<(), panel::Refusal>(())
+/// ```
 pub fn moves(order: &[u8], tool: Tool) -> Result<Moves<'_>, Refusal> {
     match move_at(order, tool, 0) {
         Err(refusal) if refusal.number != 23 => Err(refusal),

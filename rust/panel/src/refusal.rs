@@ -12,8 +12,8 @@ pub struct Refusal {
 }
 
 impl Refusal {
-    /// The refusal that the library's two words say, none if they are 0 and 0.
-    pub(crate) fn said([number, place]: Words) -> Result<(), Refusal> {
+    /// The refusal that the library's number and place say, none if the number is 0.
+    pub(crate) fn said(number: u64, place: u64) -> Result<(), Refusal> {
         if number == 0 {
             return Ok(());
         }
@@ -26,10 +26,20 @@ impl Refusal {
 
 /// What a function of the library gives, unless it refuses.
 pub(crate) fn given(call: impl FnOnce(&mut Words) -> u64) -> Result<u64, Refusal> {
-    let mut words = [0; 2];
+    let mut words = [0; 3];
     let given = call(&mut words);
-    Refusal::said(words)?;
+    let [number, place, _] = words;
+    Refusal::said(number, place)?;
     Ok(given)
+}
+
+/// What a function of the library gives and puts into an array, unless it refuses.
+pub(crate) fn given_with<T: Copy + Default, const LENGTH: usize>(
+    call: impl FnOnce(&mut [T; LENGTH], &mut Words) -> u64,
+) -> Result<(u64, [T; LENGTH]), Refusal> {
+    let mut array = [T::default(); LENGTH];
+    let given = given(|refusal| call(&mut array, refusal))?;
+    Ok((given, array))
 }
 
 impl fmt::Display for Refusal {

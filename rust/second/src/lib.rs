@@ -7,7 +7,6 @@ pub mod moves;
 pub mod order_file;
 pub mod promise;
 pub mod refusal;
-pub mod svg;
 
 mod adding;
 mod convert;

@@ -1,8 +1,8 @@
--- `panel_toldut` meets its contract.
+-- `tell_cut` meets its contract.
 use mathlib.Core.Path.{refl}
 use borrow.Author.Needs.{needs}
-use Rattle.panel_told.proofs.panel_toldut.Statement.{statement}
-use Rattle.panel_told.proofs.panel_toldut.Tie as tie
+use Rattle.panel_told.proofs.tell_cut.Statement.{statement}
+use Rattle.panel_told.proofs.tell_cut.Tie as tie
 
 enum-known-found : tie.Need-enum-known-found
 enum-known-found c = search needs

@@ -12,7 +12,7 @@ fn main() -> io::Result<()> {
     for style in STYLES {
         for n in [3, 4, 5, 6, 8, 12, 20] {
             let order = order(n, style, &mut Random::new(n.into())).bytes();
-            let mut drawing = vec![0; 42 * usize::from(n) - 60];
+            let mut drawing = vec![0; panel::drawing_length(n.into())];
             second::draw(&order, &mut drawing).map_err(io::Error::other)?;
             fs::write(folder.join(format!("{style:?}-{n}.order")), order)?;
             fs::write(folder.join(format!("{style:?}-{n}.drawing")), drawing)?;

@@ -28,8 +28,8 @@ impl Way {
 /// The answer of both sides to a file with an output of so many bytes, or how they differ.
 pub fn compare(way: Way, input: &[u8], room: usize) -> Result<Answer, String> {
     let proved = answer(room, |out| match way {
-        Way::Draw => panel::draw(input, out),
-        Way::Undraw => panel::undraw(input, out),
+        Way::Draw => panel::draw_into(input, out),
+        Way::Undraw => panel::undraw_into(input, out),
     });
     let second = answer(room, |out| {
         let answer = match way {

@@ -1,6 +1,6 @@
 //! Lists of calls, refused ones among them.
 
-use panel::Refusal;
+use panel::{drawing_length, Refusal};
 use second::generate::{calls, Random, Style, STYLES};
 use second::{drawing_file, open, Drawing};
 
@@ -74,7 +74,7 @@ fn agree(n: usize, words: &[u16], answer_words: usize, room: usize) -> Kept {
     let proved = panel::calls_in_words(n, words, &mut answers, &mut out);
     let (mut wanted_answers, mut wanted_out) = (blank(answer_words), pattern);
     let second = second_drawing(n, words, &mut wanted_answers)
-        .and_then(|drawing| second_file(&drawing, &mut wanted_out));
+        .map(|drawing| second_file(&drawing, &mut wanted_out));
     if (proved, &answers, &out) != (second, &wanted_answers, &wanted_out) {
         let place = out.iter().zip(&wanted_out).position(|(a, b)| a != b);
         return Err(format!(
@@ -88,7 +88,7 @@ fn agree(n: usize, words: &[u16], answer_words: usize, room: usize) -> Kept {
 
 /// The bytes that a drawing file of n points needs.
 fn needed(n: u16) -> usize {
-    42 * usize::from(n) - 60
+    drawing_length(n.into())
 }
 
 /// Random lists of every style, so many of each.

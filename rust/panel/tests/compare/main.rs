@@ -4,10 +4,13 @@
 //! multiplies the number of random cases: `PANEL_ROUNDS=20 cargo test --release -p panel`. A case
 //! that differs is made as small as can be before it is printed.
 
+mod as_c;
 mod both;
 mod calls;
+mod calls_lookups;
 mod calls_move;
 mod damage;
+mod lookups;
 mod moves;
 mod orders;
 mod outputs;

@@ -5,6 +5,7 @@ use panel::{Move, Refusal, Tool};
 use second::generate::{order, Order, Random, Style, STYLES};
 use second::{moves, order_file, Drawing};
 
+use crate::as_c::words;
 use crate::both::refusal;
 use crate::shrink::{keeps, order_keeps, Kept};
 use crate::tally::{rounds, Tally};
@@ -244,7 +245,7 @@ fn what_stands_in_at() {
         for number in 0..110 {
             let pitch = if number % 7 == 6 { 0.5 } else { 3.0 };
             let tool = with(random_tool(&mut random), 0, pitch);
-            let (mut at, mut refusal) = (before, [u64::MAX; 2]);
+            let (mut at, mut refusal) = (before, [u64::MAX; 3]);
             // SAFETY: pointer and length are those of a slice, and both arrays are ours.
             let kind = unsafe {
                 panel_move(
@@ -260,11 +261,8 @@ fn what_stands_in_at() {
             };
             let told = ((kind, at.map(f32::to_bits)), refusal);
             match second_move(&drawing, tool, number) {
-                Ok(wanted) => assert_eq!(told, (wanted, [0, 0])),
-                Err(why) => {
-                    let why = [u64::from(why.number), why.place as u64];
-                    assert_eq!(told, ((0, before.map(f32::to_bits)), why));
-                }
+                Ok(wanted) => assert_eq!(told, (wanted, [0; 3])),
+                Err(why) => assert_eq!(told, ((0, before.map(f32::to_bits)), words(why, 0))),
             }
             tally.count();
         }

@@ -67,6 +67,35 @@ fn lengths_around_the_needed_one() {
     tally.say();
 }
 
+/// A vector has what both sides write, or the refusal is theirs.
+fn same_in_vector(way: Way, input: &[u8]) -> Kept {
+    let made = match way {
+        Way::Draw => panel::draw(input),
+        Way::Undraw => panel::undraw(input),
+    };
+    if made != same(way, input, way.room(input))? {
+        return Err(format!("{way:?} into a vector\n  for {input:02x?}"));
+    }
+    Ok(())
+}
+
+// The file in a vector, for accepted and refused files, and for the longest.
+#[test]
+fn files_in_vectors() {
+    let mut tally = Tally::new("outputs, files in vectors");
+    for n in (3..=60).chain([1023, 1024]) {
+        for style in STYLES {
+            let (bytes, drawing) = drawn(&order(n, style, &mut Random::new(43_000)));
+            for (way, input) in [(Way::Draw, bytes), (Way::Undraw, drawing)] {
+                keeps(same_in_vector(way, &input));
+                keeps(same_in_vector(way, &input[1..]));
+                tally.count();
+            }
+        }
+    }
+    tally.say();
+}
+
 // A refusal of the file comes before 24.
 #[test]
 fn refused_files_and_short_outputs() {

@@ -9,8 +9,7 @@ use crate::tally::{rounds, Tally};
 
 /// The proved library's drawing of the order keeps the promise.
 fn drawn_as_promised(order: &Order) -> Kept {
-    let mut file = vec![0; 42 * usize::from(order.n) - 60];
-    panel::draw(&order.bytes(), &mut file).map_err(|refusal| refusal.to_string())?;
+    let file = panel::draw(&order.bytes()).map_err(|refusal| refusal.to_string())?;
     keeps_the_promise(&file)
 }
 

@@ -104,12 +104,6 @@ impl Layout {
         self.place(2).x
     }
 
-    /// The directions in which lines leave a point.
-    pub(crate) fn directions_at(&self, point: u16) -> impl Iterator<Item = Direction> + '_ {
-        self.lines_at(point)
-            .map(move |line| leaving(self, line, point))
-    }
-
     /// The lines that end at a point.
     fn lines_at(&self, point: u16) -> impl Iterator<Item = &Laid> {
         self.lines.iter().filter(move |line| line.ends_at(point))

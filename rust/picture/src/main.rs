@@ -1,10 +1,13 @@
 //! Turns a drawing file (a path, or standard input) into an SVG picture on standard output.
 
+mod drawing;
+mod svg;
+
 use std::error::Error;
 use std::io::{self, Read, Write};
 use std::process::ExitCode;
 
-use second::{drawing_file, svg};
+use drawing::Drawing;
 
 /// Writes the picture, or a message on standard error with exit status 1.
 fn main() -> ExitCode {
@@ -31,7 +34,7 @@ fn run() -> Result<(), Box<dyn Error>> {
         }
         (Some(_), Some(_)) => return Err("usage: picture [drawing file]".into()),
     }
-    let drawing = drawing_file::read(&bytes)?;
+    let drawing = Drawing::read(&bytes)?;
     io::stdout().write_all(svg::svg(&drawing).as_bytes())?;
     Ok(())
 }

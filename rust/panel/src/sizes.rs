@@ -1,0 +1,34 @@
+//! Sizes of drawings, files and answers.
+
+/// Document 01: "n from 3 to 1,024".
+pub const FEWEST_POINTS: usize = 3;
+
+/// The same sentence's other number.
+pub const MOST_POINTS: usize = 1024;
+
+/// The bytes of the longest order file.
+pub const LONGEST_ORDER: usize = 10_238;
+
+/// The bytes of the longest drawing file.
+pub const LONGEST_DRAWING: usize = drawing_length(MOST_POINTS);
+
+/// The words of an answer to a call: number and place.
+pub const ANSWER_WORDS: usize = 2;
+
+/// The bytes of the drawing file of n points, n from 3 to 1,024.
+///
+/// ```
+/// assert_eq!(panel::drawing_length(panel::MOST_POINTS), 42_948);
+/// ```
+pub const fn drawing_length(n: usize) -> usize {
+    42 * n - 60
+}
+
+/// The lines of a finished drawing of n points, n from 3 to 1,024.
+///
+/// ```
+/// assert_eq!(panel::line_count(5), 9);
+/// ```
+pub const fn line_count(n: usize) -> usize {
+    3 * n - 6
+}
