@@ -11,6 +11,7 @@ use Rattle.rules.specs.Basics.{between}
 use Rattle.rules.specs.Points.{Drawing as Plan, at}
 use Rattle.rules.specs.Lookups.{lookPoint}
 use Rattle.rules.specs.Bools.{in-range}
+use Rattle.rules.specs.Lengths.{first-at}
 use Rattle.store_links.specs.declared.Counts.{Counts}
 use Rattle.store_links.specs.Arrays.{Arrays}
 use Rattle.store_links.specs.Opening.{noPoints}
@@ -48,7 +49,7 @@ module _ {q : Plan} {a : Arrays} {c : Counts} {xs : List ℕ} (h : Holds q a c) 
         let r = in-range 1 _ p is in
         let i : p - 1 ≡ pred p = omega arith in
         let b : pred p < q .k = omega (arith, h .stores .k) in
-        rw i (sym (getD-take (q .k) l (pred p) 0 b) ∙ ap (λ (m : List ℕ). getD m (pred p) 0) e)
+        rw i (first-at l _ (q .k) (pred p) e b)
 
     -- The place of a point.
     pub point-seen : Point.At (at (getD xs (p - 1) 0) (getD (a .ys) (p - 1) 0)) ≡ pointSeen (lookPoint q p)

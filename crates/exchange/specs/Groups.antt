@@ -26,6 +26,7 @@ use Rattle.rules.specs.DrawingFile.{lineWords, writeLines, laterIn, entryIn, gr
 use Rattle.promise.specs.Next.{next}
 use Rattle.promise.specs.Accepted.{accepted}
 use Rattle.exchange.specs.Built.{Built, begun, added}
+use Rattle.rules.specs.Lengths.{length-snoc}
 use Rattle.rules.specs.Results.{same-value, bound, binds-to, tested, placed-good}
 
 -- ---- several records of one shape
@@ -162,10 +163,6 @@ pub grown : (d e : Drawing) (es : List Entry) → addEntries d es ≡ good e →
 grown d e es h = let a = accepted d e es h in rw (a .is) (grown-next d es (a .l) (a .r))
 
 -- ---- the groups of a built drawing
-
--- a list with one element more is one longer
-pub length-snoc : {A : Type 0} (l : List A) (a : A) → length (snoc l a) ≡ suc (length l)
-length-snoc l a = omega (arith, length-append l (a ∷ []))
 
 -- judging one point whose group is accepted
 judge-one : (c end : ℕ) (d e : Drawing) (es : List Entry) (fs : List Found) → group (suc (d .k)) fs ≡ es → addEntries d es ≡ good e →

@@ -12,6 +12,7 @@ use Rattle.rules.specs.declared.Line.{Line}
 use Rattle.rules.specs.declared.Entry.{Entry}
 use Rattle.rules.specs.declared.Refusal.the-variants.{OutOfRange, OtherStart}
 use Rattle.rules.specs.Basics.{between, same}
+use Rattle.rules.specs.Same.{same-self}
 use Rattle.rules.specs.Refusals.{good, placed}
 use Rattle.rules.specs.Entries.{entryOf, wordOf}
 use Rattle.rules.specs.Points.{Drawing}
@@ -69,11 +70,6 @@ write-built {n} {s} {second} {third} {rest} {d} b full =
     one-add i = omega arith
 
 -- ---- reading it back
-
--- a list is the same as itself
-same-self : (l : List ℕ) → same l l ≡ true
-same-self [] = refl
-same-self (a ∷ l) = rw (eq-eqb a a refl) (same-self l)
 
 -- the records of the points after point 3
 rest-back : {d e : Drawing} {ess : List (List Entry)} → Replays d ess e → (o : ℕ) → readRest (length ess) d (record { offset = o; bytes = pointRecords ess }) ≡ good e

@@ -47,10 +47,6 @@ getD-snoc a x p n e h = List·getD-append a (x ∷ []) 0 p (omega arith)
 pub snoc-new : (a : List ℕ) (x n : ℕ) → length a ≡ n → getD (snoc a x) n 0 ≡ x
 snoc-new a x n e = getD-at a x [] 0 n e
 
--- The list has one element more.
-pub length-snoc : (a : List ℕ) (x n : ℕ) → length a ≡ n → length (snoc a x) ≡ suc n
-length-snoc a x n e = simp length-append (omega arith)
-
 -- ---- the ports of a side
 
 -- the list of all ports on a side: dr on the right, dl on the left

@@ -12,6 +12,7 @@ use Rattle.net.specs.Adds.{Owning}
 use Rattle.rules.specs.declared.Entry.{Entry}
 use Rattle.rules.specs.Basics.{if_then_else_, indexOf, snoc, grow}
 use Rattle.rules.specs.Points.{Drawing, ownerOf, w, m}
+use Rattle.rules.specs.Lengths.{length-snoc}
 use Rattle.rules.specs.Moving.{climb}
 use Rattle.rules.specs.Adding.{spread, inside, owned, pointsOf, rowHeight}
 use Rattle.promise.specs.Nets.{netOf}
@@ -22,7 +23,7 @@ use Rattle.promise.specs.Index.{index-at}
 use Rattle.promise.specs.Columns.{newOwners, k-next, owners-next, length-owned, column-on, w-suc, index-is, inside-true, true-inside, false-inside, took, climb-next, climb-new}
 use Rattle.promise.specs.Border.{Stands, old, put, stands-next}
 use Rattle.promise.specs.Moved.{length-spread}
-use Rattle.promise.specs.Counts.{length-grow, length-snoc, ports-next, hs-next, ys-next}
+use Rattle.promise.specs.Counts.{length-grow, ports-next, hs-next, ys-next}
 
 -- ---- sizes
 
@@ -34,7 +35,7 @@ xs-next d es l r = (_, refl)
 module _ (d : Drawing) (es : List Entry) (l r : ℕ) (s : Sound d) (q : IsRun d es l r) where
   -- A list that is one longer than an old one fits the new drawing.
   one-more : (b : List ℕ) (x : ℕ) {a : List ℕ} → a ≡ snoc b x → length b ≡ d .k → length a ≡ next d es l r .k
-  one-more b x e h = ap length e ∙ length-snoc b x (d .k) h ∙ sym (k-next d es l r)
+  one-more b x e h = ap length e ∙ length-snoc b x ∙ ap suc h ∙ sym (k-next d es l r)
 
   -- Every list has one number for each point of the new drawing.
   pub sized′ : Sized (next d es l r)

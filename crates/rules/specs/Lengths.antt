@@ -1,11 +1,13 @@
--- How long the lists of the rules are, and lists one behind the other.
-use Prim.Native.Nat.{ℕ, zero, suc, _*_, _/_, _%_, _≤_}
-use mathlib.Core.Path.{_≡_, refl, ap, _∙_}
+-- How long the lists of the rules are, what their front is, and lists one behind the other.
+use Prim.Native.Nat.{ℕ, zero, suc, _*_, _/_, _%_, _<_, _≤_}
+use mathlib.Core.Path.{_≡_, refl, sym, ap, _∙_}
 use mathlib.Core.List.{List, [], _∷_, _++_, map}
 use native.Mathlib.Omega.{arith}
-use lib.ListN.{length, length-map}
+use lib.ListN.{length, getD, take, length-map, length-append}
+use lib.Seq.{getD-take}
 use Rattle.rules.specs.declared.Entry.{Entry}
 use Rattle.rules.specs.declared.Bend.{Bend}
+use Rattle.rules.specs.Basics.{snoc}
 use Rattle.rules.specs.Entries.{entryOf}
 use Rattle.rules.specs.Adding.{pointsOf, newLines}
 use Rattle.rules.specs.Records.{bytesOf, wordsIn}
@@ -22,6 +24,14 @@ length-call ws = length-points (map entryOf ws) ∙ length-map ws entryOf
 pub length-new : (p : ℕ) (bend : ℕ → Bend) (i : ℕ) (es : List Entry) → length (newLines p bend i es) ≡ length es
 length-new p bend i [] = refl
 length-new p bend i (e ∷ es) = ap suc (length-new p bend (suc i) es)
+
+-- a list with one element more is one longer
+pub length-snoc : {A : Type 0} (l : List A) (a : A) → length (snoc l a) ≡ suc (length l)
+length-snoc l a = omega (arith, length-append l (a ∷ []))
+
+-- an element of the first k, which are the list g
+pub first-at : (l g : List ℕ) (k i : ℕ) → take k l ≡ g → i < k → getD l i 0 ≡ getD g i 0
+first-at l g k i e h = sym (getD-take k l i 0 h) ∙ ap (λ (t : List ℕ). getD t i 0) e
 
 -- numbers have two bytes each
 pub length-bytes : (ws : List ℕ) → length (bytesOf ws) ≡ 2 * length ws

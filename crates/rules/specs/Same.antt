@@ -21,6 +21,11 @@ same-is (a ∷ l) (b ∷ m) h = go (eqb a b) refl h (same-is l m)
     go true e h rest = let p = eqb-true a b e in let q = rest h in cc
     go false e h rest = cc
 
+-- A list is the same as itself.
+pub same-self : (l : List ℕ) → same l l ≡ true
+same-self [] = refl
+same-self (a ∷ l) = rw (eq-eqb a a refl) (same-self l)
+
 -- Lists of different length don't pass.
 pub other-length : (l m : List ℕ) → (length l ≡ length m → ⊥) → same l m ≡ false
 other-length [] [] n = absurd (n refl)

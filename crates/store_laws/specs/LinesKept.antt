@@ -14,7 +14,7 @@ use Rattle.rules.specs.declared.Bend.the-variants.{Straight}
 use Rattle.rules.specs.Basics.{if_then_else_, nth, grow}
 use Rattle.rules.specs.Points.{Drawing, dlOf, drOf, w, lineAt}
 use Rattle.rules.specs.Entries.{entryOf}
-use Rattle.rules.specs.Lengths.{length-call}
+use Rattle.rules.specs.Lengths.{length-call, first-at}
 use Rattle.rules.specs.Adding.{pointsOf, newLines, newBend, D}
 use Rattle.store_links.specs.declared.Spot.{Spot}
 use Rattle.store_links.specs.declared.Counts.{Counts}
@@ -26,7 +26,7 @@ use Rattle.promise.specs.Next.{next}
 use Rattle.promise.specs.Lined.{length-lines, grow-at}
 use Rattle.promise.specs.Lines.{changeOf}
 use Rattle.store_laws.specs.Puts.{filled-in, filled-out}
-use Rattle.store_laws.specs.Points.{Call, after, first-at, first-w, last-w, lm, w-low}
+use Rattle.store_laws.specs.Points.{Call, after, first-w, last-w, lm, w-low}
 
 -- ---- plain lists
 

@@ -11,7 +11,7 @@ use lib.Seq.{take-suc-set, take-set-lt, set-append-left, length-take-le, getD-ta
 use Rattle.rules.specs.Basics.{grow, snoc, indexOf}
 use Rattle.rules.specs.Points.{Drawing, w, m}
 use Rattle.rules.specs.Entries.{entryOf}
-use Rattle.rules.specs.Lengths.{length-call}
+use Rattle.rules.specs.Lengths.{length-call, length-snoc, first-at}
 use Rattle.rules.specs.Adding.{spread, newY, inside, owned}
 use Rattle.net.specs.Side.{rt, lf}
 use Rattle.store_links.specs.declared.Spot.{Spot}
@@ -25,7 +25,7 @@ use Rattle.promise.specs.Next.{IsRun, next}
 use Rattle.promise.specs.Climb.{Took}
 use Rattle.promise.specs.Index.{index-at}
 use Rattle.promise.specs.Columns.{newOwners, k-next, owners-next, took, inside-true, true-inside, length-owned, index-is}
-use Rattle.promise.specs.Counts.{ports-next, hs-next, length-snoc}
+use Rattle.promise.specs.Counts.{ports-next, hs-next}
 use Rattle.store_laws.specs.Reading.{run-size, entry-is}
 use Rattle.store_laws.specs.Spotted.{Spotted}
 use Rattle.store_laws.specs.Puts.{put-same, put-other, length-put, length-owners, owners-in, owners-out}
@@ -70,10 +70,6 @@ grow-set [] p h = refl
 grow-set (x ∷ l) zero h = absurd (omega arith)
 grow-set (x ∷ l) (suc zero) h = refl
 grow-set (x ∷ l) (suc (suc i)) h = ap (λ (t : List ℕ). x ∷ t) (grow-set l (suc i) (omega arith))
-
--- An element of the first k, which are the list g.
-pub first-at : (l g : List ℕ) (k i : ℕ) → take k l ≡ g → i < k → getD l i 0 ≡ getD g i 0
-first-at l g k i e h = sym (getD-take k l i 0 h) ∙ ap (λ (t : List ℕ). getD t i 0) e
 
 -- One more number behind the first k, and one more at point p among them.
 take-grown : (l g : List ℕ) (k p : ℕ) → k < length l → 0 < p → p ≤ k → take k l ≡ g → take (suc k) (putAt (putAt l (suc k) 0) p (suc (atPoint l p))) ≡ snoc (grow g p) 0
@@ -222,7 +218,7 @@ module _ {d : Drawing} {a : Arrays} {c : Counts} {es : List ℕ} {l r : ℕ} {p 
 
   -- There is one owner for each point.
   length-new : length (newOwners d l r) ≡ suc (d .k)
-  length-new = length-snoc (owned (inside l r (d .boundary)) (suc (d .k)) 1 (d .owners)) 0 (d .k) (length-owned (inside l r (d .boundary)) (suc (d .k)) 1 (d .owners) ∙ h .sound .sized .owners)
+  length-new = length-snoc (owned (inside l r (d .boundary)) (suc (d .k)) 1 (d .owners)) 0 ∙ ap suc (length-owned (inside l r (d .boundary)) (suc (d .k)) 1 (d .owners) ∙ h .sound .sized .owners)
 
   -- The owners are the next drawing's.
   pub owner-kept : take (after d es l r .k) (withPoint a c es p from .owner) ≡ after d es l r .owners

@@ -7,6 +7,7 @@ use lib.ListN.{length, getD, take, length-map}
 use lib.Seq.{getD-take}
 use Rattle.rules.specs.Points.{Drawing, xOf, yOf, dlOf, drOf, ownerOf, w}
 use Rattle.rules.specs.Entries.{entryOf}
+use Rattle.rules.specs.Lengths.{first-at}
 use Rattle.rules.specs.Adding.{pointsOf}
 use Rattle.store_links.specs.declared.Counts.{Counts}
 use Rattle.store_links.specs.Arrays.{Arrays, Stores, atPoint}
@@ -18,7 +19,7 @@ use Rattle.promise.specs.Next.{IsRun}
 
 -- An array whose first k numbers are a list reads like the list at the points 1, .., k.
 front : (k : ℕ) (l l′ : List ℕ) → take k l ≡ l′ → (p : ℕ) → 0 < p → p ≤ k → atPoint l p ≡ getD l′ (pred p) 0
-front k l l′ e p low high = sym (getD-take k l (pred p) 0 (omega arith)) ∙ ap (λ (z : List ℕ). getD z (pred p) 0) e
+front k l l′ e p low high = first-at l l′ k (pred p) e (omega arith)
 
 -- the points of a call's entries, as the rules read them
 abbrev pub runOf : List ℕ → List ℕ

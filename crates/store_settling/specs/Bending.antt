@@ -15,6 +15,7 @@ use Rattle.net.specs.Ports.{aside-of}
 use Rattle.promise.specs.Nets.{kindOf}
 use Rattle.promise.specs.Sound.{Sound}
 use Rattle.store_links.specs.declared.Counts.{Counts}
+use Rattle.rules.specs.Lengths.{first-at}
 use Rattle.store_links.specs.Arrays.{Arrays, Stores, atPoint}
 use Rattle.store_settling.specs.Bends.{bendIn, PortFits, Bendable}
 
@@ -30,10 +31,6 @@ pub record Shows (d : Drawing) (xs : List ℕ) (a : Arrays) : Type 0 where
 pub shows-of : {d : Drawing} {a : Arrays} {c : Counts} {xs : List ℕ} → take (d .k) xs ≡ d .xs → Stores d a c → Shows d xs a
 shows-of e s = record { x = e; y = s .ys; dl = s .dls; dr = s .drs; h = s .hs }
 
--- A number of a placed point, read from the longer list.
-same-at : (l : List ℕ) {l′ : List ℕ} (k p : ℕ) → take k l ≡ l′ → 0 < p → p ≤ k → atPoint l p ≡ atPoint l′ p
-same-at l k p e a b = sym (getD-take k l (pred p) 0 (omega arith)) ∙ ap (λ (m : List ℕ). getD m (pred p) 0) e
-
 module _ {d : Drawing} {xs : List ℕ} {a : Arrays} (s : Shows d xs a) where
   -- The numbers of a placed point are the drawing's.
   pub record Seen (p : ℕ) : Type 0 where
@@ -45,12 +42,13 @@ module _ {d : Drawing} {xs : List ℕ} {a : Arrays} (s : Shows d xs a) where
 
   seen : (p : ℕ) → 0 < p → p ≤ d .k → Seen p
   seen p l u =
+      let below : pred p < d .k = omega arith in
       record {
-        x = same-at xs (d .k) p (s .x) l u;
-        y = same-at (a .ys) (d .k) p (s .y) l u;
-        dl = same-at (a .dls) (d .k) p (s .dl) l u;
-        dr = same-at (a .drs) (d .k) p (s .dr) l u;
-        h = same-at (a .hs) (d .k) p (s .h) l u;
+        x = first-at xs (d .xs) (d .k) (pred p) (s .x) below;
+        y = first-at (a .ys) (d .ys) (d .k) (pred p) (s .y) below;
+        dl = first-at (a .dls) (d .dls) (d .k) (pred p) (s .dl) below;
+        dr = first-at (a .drs) (d .drs) (d .k) (pred p) (s .dr) below;
+        h = first-at (a .hs) (d .hs) (d .k) (pred p) (s .h) below;
       }
 
   bend-by : (later earlier : ℕ) → Seen later → Seen earlier → Seen 1 → (b : Bend) → bendIn xs a later earlier b ≡ bendOf d later earlier b

@@ -6,6 +6,7 @@ use lib.Dec.{eqb}
 use lib.Ieee.{Float, nan, inf, fin, up, down}
 use lib.Ieee.Exact.{HasValue}
 use Rattle.rules.specs.Basics.{if_then_else_, between}
+use Rattle.rules.specs.Refusals.{Told, gives, refusedWith}
 use Rattle.rules.specs.Moves.{Tool as WholeTool, isTool}
 use Rattle.tool.specs.declared.Tool.{Tool}
 use Rattle.tool.specs.declared.Numbers.{Numbers}
@@ -40,6 +41,11 @@ numbersOf t = record { pitch = t .pitch; depth = t .depth; clearance = t .cleara
 -- the numbers of a tool; "any other f32 there gives 12"
 unfoldable pub checkedOf : Tool → Checked
 checkedOf t = if isTool (wholeTool t) then Good (numbersOf (wholeTool t)) else Bad
+
+-- a case of the check in document 01's numbers
+abbrev pub toldTool : Checked → Told WholeTool
+toldTool (Good n) = gives (toolOf n)
+toldTool Bad = refusedWith 12 0
 
 -- a tool's numbers are not above "pitch 80, depth 40, clearance 80"
 pub record InRange (n : Numbers) : Type 0 where

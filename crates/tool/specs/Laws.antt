@@ -3,7 +3,7 @@ use mathlib.Core.Path.{_≡_, refl, sym, _∙_, subst}
 use Prim.Native.Nat.{ℕ, _*_, _/_, _%_, _≤_}
 use native.Mathlib.Nat.{mul-one, mul-div-cancel, mul-mod-left, div-add-mod'}
 use native.Mathlib.Omega.{arith}
-use mathlib.Core.Bool.{Bool, true, false, _&&_, true≢false}
+use mathlib.Core.Bool.{Bool, true, false, not, _&&_, true≢false}
 use mathlib.Core.Logic.{_⊎_, inl, inr, ⊎-elim}
 use mathlib.Core.List.{[], _∷_, map}
 use lib.Dec.{leb, eqb}
@@ -13,11 +13,13 @@ use lib.Ieee.{Float, nan, inf, fin, up, down}
 use lib.Ieee.Fits.{down-pos}
 use lib.Ieee.Exact.{HasValue}
 use Rattle.rules.specs.Basics.{if_then_else_}
+use Rattle.rules.specs.declared.Refusal.the-variants.{BadTool}
+use Rattle.rules.specs.Refusals.{good, told, refuseIf, _>>_}
 use Rattle.rules.specs.Moves.{isTool}
 use Rattle.tool.specs.declared.Tool.{Tool}
 use Rattle.tool.specs.declared.Numbers.{Numbers}
 use Rattle.tool.specs.declared.Checked.the-variants.{Good, Bad}
-use Rattle.tool.specs.Checking.{wholeNumber, wholeTool, toolOf, numbersOf, checkedOf, InRange}
+use Rattle.tool.specs.Checking.{wholeNumber, wholeTool, toolOf, numbersOf, checkedOf, toldTool, InRange}
 
 -- the quotient of a float of the value k, and its remainder
 pub quotient : (m : ℕ) (e : ℤ) (k : ℕ) → m * up e * 1 ≡ k * down e → (m * up e / down e ≡ k) × (m * up e % down e ≡ 0)
@@ -82,3 +84,12 @@ bad-tool t h = go (isTool (wholeTool t)) h
     go : (b : Bool) → (if b then Good (numbersOf (wholeTool t)) else Bad) ≡ Bad → b ≡ false
     go true e = absurd (let z : _≡_ {A = ℕ} 0 1 = cc in omega arith)
     go false e = refl
+
+-- it tells the tool of the rules, or 12
+pub tool-told : (t : Tool) → toldTool (checkedOf t) ≡ told (refuseIf (not (isTool (wholeTool t))) BadTool 0 >> good (wholeTool t))
+unfolding checkedOf
+tool-told t = go (isTool (wholeTool t))
+  where
+    go : (b : Bool) → toldTool (if b then Good (numbersOf (wholeTool t)) else Bad) ≡ told (refuseIf (not b) BadTool 0 >> good (wholeTool t))
+    go true = refl
+    go false = refl
