@@ -1,11 +1,10 @@
 -- The places of points, from the settled x and the heights.
 use Prim.Native.Nat.{ℕ, pred, _-_, _<_, _≤_}
-use mathlib.Core.Path.{_≡_, refl, sym, ap, _∙_}
+use mathlib.Core.Path.{_≡_, refl}
 use mathlib.Core.Bool.{true, false}
 use mathlib.Core.List.{List}
 use native.Mathlib.Omega.{arith}
 use lib.ListN.{getD, take}
-use lib.Seq.{getD-take}
 use Rattle.rules.specs.declared.Refusal.the-variants.{NoSuch}
 use Rattle.rules.specs.Basics.{between}
 use Rattle.rules.specs.Points.{Drawing as Plan, at}

@@ -7,7 +7,7 @@ use native.Mathlib.Nat.{add-zero, add-suc, suc-add}
 use native.Mathlib.Omega.{arith}
 use lib.ListN.{length, getD}
 use lib.Dec.{eqb}
-use borrow.Author.Tests.{le-leb, eq-eqb, eqb-true, eqb-false}
+use borrow.Author.Tests.{le-leb, eqb-true, eqb-false}
 use Rattle.rules.specs.declared.Line.{Line}
 use Rattle.rules.specs.declared.Entry.{Entry}
 use Rattle.rules.specs.declared.Refusal.the-variants.{OutOfRange, OtherStart}

@@ -1,6 +1,6 @@
 -- What C is told of each answer: "Where the answer is an enum, there is a definition that gives this paper's number and values for each of its cases."
 use Prim.Native.Nat.{ℕ}
-use mathlib.Core.List.{List, [], _∷_}
+use mathlib.Core.List.{[], _∷_}
 use lib.Ieee.{Float, binary32, ofBits}
 use Rattle.rules.specs.declared.Bend.{Bend}
 use Rattle.rules.specs.declared.Bend.the-variants.{Left, Right, Middle, Straight}

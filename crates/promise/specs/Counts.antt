@@ -4,7 +4,7 @@ use mathlib.Core.Path.{_≡_, refl, ap, sym, _∙_}
 use mathlib.Core.Logic.{_≢_}
 use mathlib.Core.List.{List, [], _∷_}
 use native.Mathlib.Omega.{arith}
-use lib.ListN.{length, getD, List·getD-append, length-append, length-map}
+use lib.ListN.{length, getD, List·getD-append, length-map}
 use lib.Seq.{getD-at}
 use Rattle.net.specs.Side.{Side, rt, lf, at, at-in}
 use Rattle.rules.specs.declared.Entry.{Entry}

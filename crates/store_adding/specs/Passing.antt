@@ -28,7 +28,7 @@ use Rattle.store_placing.specs.declared.Ports.{Ports}
 use Rattle.store_placing.specs.declared.Ports.the-variants as Ports
 use Rattle.store_placing.specs.Ports.{portsFor, from-told, none-told}
 use Rattle.store_placing.specs.Small.{Small}
-use Rattle.store_points.specs.Storable.{Storable}
+use Rattle.store_calls.specs.Storable.{Storable}
 use Rattle.store_adding.specs.Calls.{Ready, Answered, Runs}
 
 -- the tests before 25

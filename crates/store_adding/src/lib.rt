@@ -81,7 +81,7 @@ pub fn add(table: &mut [u16], c: Counts, e: &[u16]) -> Added
             counts: c,
         };
     };
-    store_points::store(table, c, e, p, from);
+    store_calls::store(table, c, e, p, from);
     Added {
         answer: Answer::Accepted,
         counts: counts_with(c, e.len()),

@@ -4,7 +4,6 @@ use mathlib.Core.Path.{_≡_, refl, sym, ap, _∙_}
 use mathlib.Core.List.{List, [], _∷_, map}
 use native.Mathlib.Omega.{arith}
 use lib.ListN.{length, getD, take, length-map}
-use lib.Seq.{getD-take}
 use Rattle.rules.specs.Points.{Drawing, xOf, yOf, dlOf, drOf, ownerOf, w}
 use Rattle.rules.specs.Entries.{entryOf}
 use Rattle.rules.specs.Lengths.{first-at}

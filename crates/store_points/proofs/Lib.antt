@@ -1,3 +1,1 @@
 pub mod Covering
-pub mod Filling
-pub mod Whole

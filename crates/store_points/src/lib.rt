@@ -1,13 +1,11 @@
-// What opening a drawing and an accepted adding call store into the lent table.
-// For the crates above: opening asks for a table of zeros, a call for entries that passed the tests and for the new point's place.
-use rules::Bend;
+// The words of points in the lent table: those of a drawing as opened, and what changes at the points of a run and at the new point.
+// For the crates above: opening asks for a table of zeros, the others for a run that passed the tests and for the new point's place.
 use store_links::Counts;
 use store_links::GAP_OFFSET;
 use store_links::LEFT_PORT;
 use store_links::NO_PORT;
 use store_links::RIGHT_PORT;
 use store_links::Spot;
-use store_links::bend_code;
 use store_tables::BENDS;
 use store_tables::DLS;
 use store_tables::DRS;
@@ -23,15 +21,14 @@ use words::broad;
 use words::narrow;
 use words::point_of;
 ghost use mathlib.Core.Path.{_≡_};
-ghost use Prim.Native.Nat.{suc, pred, _+_, _-_, _<_, _≤_};
+ghost use Prim.Native.Nat.{suc, pred, _+_, _<_, _≤_};
 ghost use lib.ListN.{length, set};
-ghost use Rattle.rules.specs.Adding.{newBend};
 ghost use Rattle.store_links.specs.Arrays.{atPoint};
 ghost use Rattle.store_links.specs.Placing.{innerCount};
-ghost use Rattle.store_links.specs.Storing.{putAt, codeOf, withPoint};
+ghost use Rattle.store_links.specs.Storing.{putAt};
 ghost use Rattle.store_tables.specs.Tables.{Full, arraysIn, tableSize};
-ghost use Rattle.store_points.specs.Storable.{Coverable, Linkable, Growable, Pushable, Storable};
-ghost use Rattle.store_points.specs.Stages.{covered, linked, lined};
+ghost use Rattle.store_points.specs.Storable.{Coverable, Linkable, Growable};
+ghost use Rattle.store_points.specs.Stages.{covered, linked};
 ghost use Rattle.store_links.specs.Opening.{openArrays, openCounts};
 ghost use Rattle.store_points.specs.Zeros.{zeros};
 
@@ -44,7 +41,7 @@ fn put(table: &mut [u16], at: usize, p: usize, v: usize)
 }
 
 // The inner points of the run get the new point v as their owner, and their gaps count from it.
-fn cover(e: &[u16], table: &mut [u16], p: Spot, v: u16)
+pub fn cover(e: &[u16], table: &mut [u16], p: Spot, v: u16)
     requires { ⌜ Coverable (now e) (arraysIn (now table) .gap) p × Full (now table) ⌝ }
     ensures { λ _. ⌜ arraysIn (now (table .exit)) ≡ covered (arraysIn (now (table .entry))) (now (e .entry)) p v (innerCount (now (e .entry))) ⌝ }
 {
@@ -61,7 +58,7 @@ fn cover(e: &[u16], table: &mut [u16], p: Spot, v: u16)
 }
 
 // The new point v stands on the boundary between wl and wr.
-fn link(table: &mut [u16], v: usize, wl: usize, wr: usize, p: Spot)
+pub fn link(table: &mut [u16], v: usize, wl: usize, wr: usize, p: Spot)
     requires { ⌜ Linkable v wl wr p × Full (now table) ⌝ }
     ensures { λ _. ⌜ arraysIn (now (table .exit)) ≡ linked (arraysIn (now (table .entry))) v wl wr p ⌝ }
 {
@@ -75,7 +72,7 @@ fn link(table: &mut [u16], v: usize, wl: usize, wr: usize, p: Spot)
 }
 
 // The new point v has no port on this side, and w has one more: its index.
-fn grow_ports(ports: &mut [u16], v: usize, w: usize) -> u16
+pub fn grow_ports(ports: &mut [u16], v: usize, w: usize) -> u16
     requires { ⌜ Growable (now ports) v w × (length (now ports) ≡ 1024) ⌝ }
     ensures grown { λ r. ⌜ now (ports .exit) ≡ putAt (putAt (now (ports .entry)) v 0) w (suc (atPoint (now (ports .entry)) w)) ⌝ }
     ensures index { λ r. ⌜ r ≡ suc (atPoint (now (ports .entry)) w) ⌝ }
@@ -84,59 +81,6 @@ fn grow_ports(ports: &mut [u16], v: usize, w: usize) -> u16
     ports[v - 1] = 0;
     ports[w - 1] = index;
     index
-}
-
-// The bend of entry i's line: at wl's new right port, wr's new left one, or a middle port.
-fn new_bend(rights: u16, lefts: u16, last: usize, from: usize, i: usize) -> Bend
-    requires { ⌜ i < 65535 ⌝ }
-    ensures { λ r. ⌜ r ≡ newBend rights lefts last from i ⌝ }
-{
-    if i == 0 {
-        return Bend::Right(rights);
-    }
-    if i == last {
-        return Bend::Left(lefts);
-    }
-    let next = i + 1;
-    if i < from {
-        Bend::Middle(narrow(i))
-    } else {
-        Bend::Middle(narrow(next))
-    }
-}
-
-// A line for each entry, from the new point, behind the lines that are there.
-fn push_lines(e: &[u16], table: &mut [u16], c: Counts, rights: u16, lefts: u16, from: usize)
-    requires { ⌜ Pushable (now e) c rights lefts × Full (now table) ⌝ }
-    ensures { λ _. ⌜ arraysIn (now (table .exit)) ≡ lined (arraysIn (now (table .entry))) (now (e .entry)) (c .lines) (suc (c .k)) (codeOf rights lefts (length (now (e .entry)) - 1) from) (length (now (e .entry))) ⌝ }
-{
-    let at = c.lines;
-    let new = narrow(c.k + 1);
-    let last = e.len() - 1;
-    let mut i = 0;
-    while i < e.len() {
-        let line = at + i;
-        table[WORDS + line] = e[i];
-        table[LATER + line] = new;
-        table[BENDS + line] = bend_code(new_bend(rights, lefts, last, from, i));
-        i += 1;
-    }
-}
-
-// The new point over the run of the entries e, at the spot p, and its lines, with middle ports that change at `from`.
-pub fn store(table: &mut [u16], c: Counts, e: &[u16], p: Spot, from: usize)
-    requires { ⌜ Storable (arraysIn (now table)) c (now e) p × Full (now table) ⌝ }
-    ensures { λ _. ⌜ arraysIn (now (table .exit)) ≡ withPoint (arraysIn (now (table .entry))) c (now (e .entry)) p from ⌝ }
-{
-    let v = c.k + 1;
-    let new = narrow(v);
-    let wl = point_of(e[0]);
-    let wr = point_of(e[e.len() - 1]);
-    cover(e, table, p, new);
-    link(table, v, wl, wr, p);
-    let rights = grow_ports(&mut table[DRS..HS], v, wl);
-    let lefts = grow_ports(&mut table[DLS..DRS], v, wr);
-    push_lines(e, table, c, rights, lefts, from);
 }
 
 // Three words of the table, from `at` on.

@@ -1,10 +1,9 @@
 -- The bends that the arrays give are those of the drawing, and those of a sound drawing can be found.
 use Prim.Native.Nat.{ℕ, pred, _+_, _<_, _≤_}
-use mathlib.Core.Path.{_≡_, refl, sym, ap, _∙_}
+use mathlib.Core.Path.{_≡_, refl, ap}
 use mathlib.Core.List.{List}
 use native.Mathlib.Omega.{arith}
-use lib.ListN.{length, getD, take}
-use lib.Seq.{getD-take}
+use lib.ListN.{length, take}
 use Rattle.rules.specs.declared.Bend.{Bend}
 use Rattle.rules.specs.declared.Bend.the-variants.{Left, Right, Middle, Straight}
 use Rattle.rules.specs.Points.{Drawing, xOf, yOf, dlOf, drOf, hOf, lineAt}

@@ -10,8 +10,10 @@ use Rattle.store_links.specs.declared.Counts.{Counts}
 use Rattle.store_links.specs.Arrays.{Arrays, atPoint}
 use Rattle.store_links.specs.Placing.{entryPoint, innerCount}
 use Rattle.store_links.specs.Storing.{codeOf, withPoint}
-use Rattle.store_points.specs.Storable.{Coverable, Linkable, Growable, Pushable, Storable}
-use Rattle.store_points.specs.Stages.{covered, linked, ported, lined}
+use Rattle.store_points.specs.Storable.{Coverable, Linkable, Growable}
+use Rattle.store_calls.specs.Storable.{Pushable, Storable}
+use Rattle.store_points.specs.Stages.{covered, linked, ported}
+use Rattle.store_calls.specs.Stages.{lined}
 
 -- a storable call whose first and last entry have the points wl and wr
 pub record Run (a : Arrays) (c : Counts) (es : List ℕ) (p : Spot) (wl wr : ℕ) : Type 0 where

@@ -13,7 +13,7 @@ use Rattle.store_links.specs.Codes.{rightPort, leftPort, bendCode}
 use Rattle.store_links.specs.Arrays.{Arrays}
 use Rattle.store_links.specs.Storing.{codeOf, filled}
 use Rattle.store_tables.specs.Tables.{from, Keeps, arrays-store, wordsR, laterR, bendsR}
-use Rattle.store_points.specs.Stages.{lined}
+use Rattle.store_calls.specs.Stages.{lined}
 
 -- one line more is stored
 pub line-more : (t : List ℕ) (a : Arrays) (es : List ℕ) (at v i x : ℕ) (code : ℕ → ℕ) → Keeps t (lined a es at v code i) → at + i < 3072 → x ≡ code i →

@@ -7,11 +7,11 @@ use Rattle.store_links.specs.Arrays.{Arrays, atPoint}
 use Rattle.store_links.specs.Placing.{innerCount}
 use Rattle.store_tables.specs.Parts.{patched}
 use Rattle.store_tables.specs.Tables.{from, size, Full, arraysIn, changed, Keeps, arrays-lent, drsR, dlsR}
 use Rattle.store_points.specs.Stages.{covered, linked, grown, ported}
-use Rattle.store_points.proofs.Whole.{Run, coverable, linkable, right-ports, left-ports, pushable, whole}
+use Rattle.store_calls.proofs.Whole.{Run, coverable, linkable, right-ports, left-ports, pushable, whole}
 use borrow.Author.Needs.{needs}
-use Rattle.store_points.proofs.store.Statement.{statement}
-use Rattle.store_points.proofs.store.Tie as tie
+use Rattle.store_calls.proofs.store.Statement.{statement}
+use Rattle.store_calls.proofs.store.Tie as tie
 
 -- the function's start, from the place where wl and wr are known
 abbrev start : tie.After-point-of2 → tie.Start

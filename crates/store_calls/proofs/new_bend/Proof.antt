@@ -5,8 +5,8 @@ use native.Mathlib.Omega.{arith}
 use borrow.Author.Tests.{eq-eqb, ne-eqb, lt-ltb, le-ltb}
 use Rattle.rules.specs.declared.Bend.the-variants.{Middle}
 use borrow.Author.Needs.{needs}
-use Rattle.store_points.proofs.new_bend.Statement.{statement}
-use Rattle.store_points.proofs.new_bend.Tie as tie
+use Rattle.store_calls.proofs.new_bend.Statement.{statement}
+use Rattle.store_calls.proofs.new_bend.Tie as tie
 
 returns : tie.Need-returns
 returns c = rw (eq-eqb _ _ (c .if1 .taken))

@@ -7,11 +7,11 @@ use native.Mathlib.Omega.{arith}
 use Rattle.store_links.specs.Codes.{bendCode}
 use Rattle.store_links.specs.Storing.{codeOf, filled}
 use Rattle.store_tables.specs.Tables.{arraysIn, Keeps}
-use Rattle.store_points.specs.Stages.{lined}
-use Rattle.store_points.proofs.Filling.{line-more, code-fits}
+use Rattle.store_calls.specs.Stages.{lined}
+use Rattle.store_calls.proofs.Filling.{line-more, code-fits}
 use borrow.Author.Needs.{needs}
-use Rattle.store_points.proofs.push_lines.Statement.{statement}
-use Rattle.store_points.proofs.push_lines.Tie as tie
+use Rattle.store_calls.proofs.push_lines.Statement.{statement}
+use Rattle.store_calls.proofs.push_lines.Tie as tie
 
 abbrev Inv-loop : tie.InvT-loop
 Inv-loop e table₀ rights lefts from at new last i₀ table i = (i ≤ length e) × (length table ≡ length table₀) × Keeps table (lined (arraysIn table₀) e at new (codeOf rights lefts last from) i)

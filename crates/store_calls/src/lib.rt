@@ -1,0 +1,78 @@
+// What an accepted adding call stores into the lent table: its point, by `store_points`, and its lines.
+// For `store_adding`: it asks for entries that passed the tests, and for the new point's place.
+use rules::Bend;
+use store_links::Counts;
+use store_links::Spot;
+use store_links::bend_code;
+use store_points::cover;
+use store_points::grow_ports;
+use store_points::link;
+use store_tables::BENDS;
+use store_tables::DLS;
+use store_tables::DRS;
+use store_tables::HS;
+use store_tables::LATER;
+use store_tables::WORDS;
+use words::narrow;
+use words::point_of;
+ghost use mathlib.Core.Path.{_≡_};
+ghost use Prim.Native.Nat.{suc, _+_, _-_, _<_, _≤_};
+ghost use lib.ListN.{length};
+ghost use Rattle.rules.specs.Adding.{newBend};
+ghost use Rattle.store_links.specs.Storing.{codeOf, withPoint};
+ghost use Rattle.store_tables.specs.Tables.{Full, arraysIn};
+ghost use Rattle.store_calls.specs.Storable.{Pushable, Storable};
+ghost use Rattle.store_calls.specs.Stages.{lined};
+
+// The bend of entry i's line: at wl's new right port, wr's new left one, or a middle port.
+fn new_bend(rights: u16, lefts: u16, last: usize, from: usize, i: usize) -> Bend
+    requires { ⌜ i < 65535 ⌝ }
+    ensures { λ r. ⌜ r ≡ newBend rights lefts last from i ⌝ }
+{
+    if i == 0 {
+        return Bend::Right(rights);
+    }
+    if i == last {
+        return Bend::Left(lefts);
+    }
+    let next = i + 1;
+    if i < from {
+        Bend::Middle(narrow(i))
+    } else {
+        Bend::Middle(narrow(next))
+    }
+}
+
+// A line for each entry, from the new point, behind the lines that are there.
+fn push_lines(e: &[u16], table: &mut [u16], c: Counts, rights: u16, lefts: u16, from: usize)
+    requires { ⌜ Pushable (now e) c rights lefts × Full (now table) ⌝ }
+    ensures { λ _. ⌜ arraysIn (now (table .exit)) ≡ lined (arraysIn (now (table .entry))) (now (e .entry)) (c .lines) (suc (c .k)) (codeOf rights lefts (length (now (e .entry)) - 1) from) (length (now (e .entry))) ⌝ }
+{
+    let at = c.lines;
+    let new = narrow(c.k + 1);
+    let last = e.len() - 1;
+    let mut i = 0;
+    while i < e.len() {
+        let line = at + i;
+        table[WORDS + line] = e[i];
+        table[LATER + line] = new;
+        table[BENDS + line] = bend_code(new_bend(rights, lefts, last, from, i));
+        i += 1;
+    }
+}
+
+// The new point over the run of the entries e, at the spot p, and its lines, with middle ports that change at `from`.
+pub fn store(table: &mut [u16], c: Counts, e: &[u16], p: Spot, from: usize)
+    requires { ⌜ Storable (arraysIn (now table)) c (now e) p × Full (now table) ⌝ }
+    ensures { λ _. ⌜ arraysIn (now (table .exit)) ≡ withPoint (arraysIn (now (table .entry))) c (now (e .entry)) p from ⌝ }
+{
+    let v = c.k + 1;
+    let new = narrow(v);
+    let wl = point_of(e[0]);
+    let wr = point_of(e[e.len() - 1]);
+    cover(e, table, p, new);
+    link(table, v, wl, wr, p);
+    let rights = grow_ports(&mut table[DRS..HS], v, wl);
+    let lefts = grow_ports(&mut table[DLS..DRS], v, wr);
+    push_lines(e, table, c, rights, lefts, from);
+}
