@@ -15,12 +15,13 @@ use Rattle.store_links.specs.declared.Counts.{Counts}
 use Rattle.store_links.specs.Arrays.{Arrays}
 use Rattle.store_laws.specs.Adding.{Holds}
 use Rattle.tool.specs.Showing.{OnGrid}
+use Rattle.answers.specs.Told.{pointSeen, lineSeen}
+use Rattle.answers.specs.declared.LineSeen.{LineSeen}
+use Rattle.answers.specs.declared.LineSeen.the-variants as Line
+use Rattle.answers.specs.declared.PointSeen.{PointSeen}
+use Rattle.answers.specs.declared.PointSeen.the-variants as Point
 use Rattle.drawing.specs.declared.Drawing.{Drawing}
-use Rattle.drawing.specs.declared.LineSeen.{LineSeen}
-use Rattle.drawing.specs.declared.LineSeen.the-variants as Line
-use Rattle.drawing.specs.declared.PointSeen.{PointSeen}
-use Rattle.drawing.specs.declared.PointSeen.the-variants as Point
-use Rattle.drawing.specs.View.{Came, pointSeen, lineSeen}
+use Rattle.drawing.specs.View.{Came}
 use Rattle.store_settling.specs.Lines.{ends}
 
 -- A drawing that came from calls or an order file has a scale from 1 to 8.

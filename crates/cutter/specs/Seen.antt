@@ -8,7 +8,7 @@ use borrow.Author.Tests.{lt-ltb, le-ltb}
 use Rattle.rules.specs.declared.Line.{Line}
 use Rattle.rules.specs.declared.Place.{Place}
 use Rattle.rules.specs.declared.Refusal.the-variants.{BadTool, Unfinished, NoSuch}
-use Rattle.rules.specs.Refusals.{number, Result, good, Told, gives, refusedWith, told, _>>_, refuseIf}
+use Rattle.rules.specs.Refusals.{Result, good, Told, gives, refusedWith, told, _>>_, refuseIf}
 use Rattle.rules.specs.Points.{Drawing as Plan, placeOf, lineAt}
 use Rattle.rules.specs.Ports.{bendPlace}
 use Rattle.rules.specs.Moves.{Tool as WholeTool, Move as WholeMove, lift, allMoves, moveAt}
@@ -23,10 +23,10 @@ use Rattle.tool.specs.Checking.{wholeTool, toolOf, checkedOf}
 use Rattle.tool.specs.Showing.{Shows, inFloats, lineMove}
 use Rattle.tool.specs.Laws.{good-tool}
 use Rattle.tool.specs.Laws as Laws
-use Rattle.cutter.specs.declared.Moved.{Moved}
-use Rattle.cutter.specs.declared.Moved.the-variants as Moved
-use Rattle.cutter.specs.declared.Counted.{Counted}
-use Rattle.cutter.specs.declared.Counted.the-variants as Counted
+use Rattle.answers.specs.declared.Moved.{Moved}
+use Rattle.answers.specs.declared.Moved.the-variants as Moved
+use Rattle.answers.specs.declared.Counted.the-variants as Counted
+use Rattle.answers.specs.Told.{toldMove, toldCount}
 use Rattle.cutter.specs.Numbering.{fiveOf, five-each, move-by-number}
 use Rattle.cutter.specs.Whole.{bad-tool, too-early, past-all, given}
 use Rattle.cutter.specs.Cuts.{cutsTo, NthCut, cuts-all, nth-is, nth-there}
@@ -34,11 +34,6 @@ use Rattle.cutter.specs.Cuts.{cutsTo, NthCut, cuts-all, nth-is, nth-ther
 -- the move of floats is the move of whole numbers: in f32, and with no error
 abbrev pub IsMove : Move → WholeMove → Type 0
 IsMove m v = (m ≡ inFloats v) × Shows m v
-
--- an answer in document 01's numbers
-abbrev pub toldMove : Moved → Told Move
-toldMove (Moved.Made m) = gives m
-toldMove (Moved.Refused r p) = refusedWith (number r) p
 
 -- what is said is what the rules give: the same move, or the same number and place
 abbrev pub SaysMove : Told Move → Told WholeMove → Type 0
@@ -55,10 +50,6 @@ abbrev pub moveCount : Plan → WholeTool → Result ℕ
 moveCount q t = do
   refuseIf (ltb (q .k) (q .n)) Unfinished 0
   good (length (allMoves q t))
-
-abbrev pub toldCount : Counted → Told ℕ
-toldCount (Counted.Moves n) = gives n
-toldCount (Counted.Refused r p) = refusedWith (number r) p
 
 -- A move of a line from these places is the move of the drawing's line that has them.
 pub line-moved : (q : Plan) (n : Numbers) (l : Line) {s : ℕ} {a b e : Place} (i : ℕ) (m : Move) →

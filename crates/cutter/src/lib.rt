@@ -1,8 +1,10 @@
 // The cutter moves of a drawing, given one at a time by number, and how many there are.
+use answers::Counted;
+use answers::LineSeen;
+use answers::Moved;
+use answers::PointSeen;
 use drawing::Drawing;
-use drawing::LineSeen;
 use drawing::Placed;
-use drawing::PointSeen;
 use rules::Place;
 use rules::Refusal;
 use store_links::Counts;
@@ -22,24 +24,13 @@ ghost use Rattle.rules.specs.Points.{Drawing as Plan, placeOf, lineAt};
 ghost use Rattle.rules.specs.Moves.{Tool as WholeTool, lift, moveAt};
 ghost use Rattle.store_laws.specs.Adding.{Holds};
 ghost use Rattle.store_tables.specs.Tables.{arraysIn};
+ghost use Rattle.answers.specs.Told.{toldCount};
 ghost use Rattle.tool.specs.Checking.{wholeTool, toolOf, InRange};
 ghost use Rattle.drawing.specs.View.{Is, Came};
 ghost use Rattle.drawing.specs.Places.{PlacedIn, IsPlaced};
 ghost use Rattle.cutter.specs.Numbering.{fiveOf};
 ghost use Rattle.cutter.specs.Cuts.{NthCut, cutsTo};
-ghost use Rattle.cutter.specs.Seen.{IsMove, MoveSeen, toldCount, moveCount};
-
-// What asking for a move answers.
-pub enum Moved {
-    Made(Move),
-    Refused(Refusal, usize),
-}
-
-// What asking for the number of moves answers.
-pub enum Counted {
-    Moves(usize),
-    Refused(Refusal, usize),
-}
+ghost use Rattle.cutter.specs.Seen.{IsMove, MoveSeen, moveCount};
 
 // A line with this entry is cut.
 fn is_cut(word: u16) -> bool
@@ -89,7 +80,7 @@ fn place_of(table: &Table, x: &[u16; POINTS], c: Counts, p: u16) -> Place
     requires { ⌜ PlacedIn c (now table) (now x) × (1 ≤ p) × (p ≤ c .k) ⌝ }
     ensures { λ r. ⌜ ((q : Plan) → Holds q (arraysIn (now (table .entry))) c → r ≡ placeOf q p) ⌝ }
 {
-    let PointSeen::At(a) = drawing::look_point(table, x, c, words::broad(p)) else {
+    let PointSeen::At(a) = store_looking::look_point(table, x, c, words::broad(p)) else {
         return Place { x: 0, y: 0 };
     };
     a
@@ -100,7 +91,7 @@ fn move_of(table: &Table, x: &[u16; POINTS], c: Counts, e: usize, which: usize, 
     requires { ⌜ PlacedIn c (now table) (now x) × (e < c .lines) × (which < 5) × InRange t ⌝ }
     ensures { λ r. ⌜ ((q : Plan) → Holds q (arraysIn (now (table .entry))) c → IsMove r (getD (fiveOf q (toolOf t) (lineAt q e)) which (lift 0))) ⌝ }
 {
-    let LineSeen::Seen(l, bend) = drawing::look_line(table, x, c, e) else {
+    let LineSeen::Seen(l, bend) = store_looking::look_line(table, x, c, e) else {
         return Move::Lift(0.0);
     };
     let later = place_of(table, x, c, l.later);

@@ -17,12 +17,12 @@ use Rattle.store_links.specs.declared.Added.{Added}
 use Rattle.store_links.specs.declared.Counts.{Counts}
 use Rattle.store_links.specs.Arrays.{Arrays}
 use Rattle.store_links.specs.Storing.{judged, arraysAfter, countsAfter}
-use Rattle.store_laws.specs.Adding.{Holds, called}
+use Rattle.store_laws.specs.Adding.{Holds, Ready, called}
 use Rattle.store_tables.specs.Tables.{Full, arraysIn, table-long, tableSize, table-same}
-use Rattle.store_adding.specs.Calls.{Ready, Answered}
+use Rattle.store_adding.specs.Calls.{Answered}
 use Rattle.drawing.specs.declared.Drawing.{Drawing}
 use Rattle.drawing.specs.declared.Done.{Done}
-use Rattle.drawing.specs.View.{Is, Came}
+use Rattle.drawing.specs.View.{Is, Came, stored}
 
 pub record AddsTo (d : Drawing) (es : List ℕ) (r : Done) : Type 0 where
   pub right : (p : Plan) → Is p d → (toldAnswer (r .answer) ≡ told (add p es >> good tt)) × Is (left p (add p es)) (r .drawing)
@@ -31,7 +31,7 @@ pub record AddsTo (d : Drawing) (es : List ℕ) (r : Done) : Type 0 where
 
 -- A drawing that came so can be added to.
 pub ready : {d : Drawing} → Came d → Ready (arraysIn (d .table)) (d .counts) × Full (d .table)
-ready {d} c = (record { d = c .plan; holds = c .is }, table-long (d .table) (c .is .sized))
+ready {d} c = (stored c, table-long (d .table) (c .is .sized))
 
 -- refused, nothing changes
 kept-by : (a : Arrays) (c : Counts) (es : List ℕ) (j : Result (Unit {0})) (f : Refusal) (at : ℕ) → answer j ≡ Refused f at → (arraysAfter j a c es ≡ a) × (countsAfter j c es ≡ c)

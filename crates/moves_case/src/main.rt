@@ -1,6 +1,6 @@
 // Prints the cutter moves of document 01's K4 (n = 5, add 1,3, then 1,4,3,2), one line a move, in eighths of a millimetre: drawn by calls with one tool, and from its order file at scale 8 with another.
-use cutter::Counted;
-use cutter::Moved;
+use answers::Counted;
+use answers::Moved;
 use drawing::Placed;
 use libc::STDOUT_FILENO;
 use rules::Answer;

@@ -1,12 +1,14 @@
 -- The files of a drawing, finished or not.
-use Prim.Native.Nat.{_<_, _≤_}
+use Prim.Native.Nat.{ℕ, _<_, _≤_}
 use mathlib.Core.Path.{_≡_}
+use mathlib.Core.List.{List}
 use native.Mathlib.Omega.{arith}
 use lib.Dec.{ltb}
 use borrow.Author.Tests.{lt-ltb, le-ltb}
 use Rattle.rules.specs.declared.Refusal.the-variants.{Unfinished}
-use Rattle.rules.specs.Refusals.{Result, refused, refuseIf, _>>_}
+use Rattle.rules.specs.Refusals.{Result, good, refused, refuseIf, _>>_}
 use Rattle.rules.specs.Points.{Drawing as Plan}
+use Rattle.rules.specs.OrderFile.{writeOrder}
 use Rattle.store_links.specs.declared.Counts.{Counts}
 use Rattle.store_links.specs.Arrays.{Arrays}
 use Rattle.store_laws.specs.Adding.{Holds}
@@ -14,7 +16,13 @@ use Rattle.exchange.specs.Built.{Reached, Whole}
 use Rattle.drawing.specs.declared.Drawing.{Drawing}
 use Rattle.store_tables.specs.Tables.{arraysIn}
 use Rattle.drawing.specs.View.{Came}
-use Rattle.panel.specs.Outputs.{Ended}
+use Rattle.write_files.specs.Outputs.{Ended}
+
+-- the order file of a drawing: 22 while k < n
+abbrev pub wholeOrder : Plan → Result (List ℕ)
+wholeOrder d = do
+  refuseIf (ltb (d .k) (d .n)) Unfinished 0
+  good (writeOrder d)
 
 module _ {q : Plan} {a : Arrays} {c : Counts} (t : Holds q a c) where
   -- no file yet

@@ -1,5 +1,3 @@
-pub mod Outputs
-pub mod Files
 pub mod Reading
 pub mod Undrawing
 pub mod Finishing

@@ -21,9 +21,9 @@ use Rattle.drawing.specs.declared.Drawing.{Drawing}
 use Rattle.store_tables.specs.Tables.{arraysIn}
 use Rattle.drawing.specs.View.{Is}
 use Rattle.drawing.specs.Opens.{blank, Gives}
-use Rattle.panel.specs.declared.Written.{Written}
-use Rattle.panel.specs.declared.Written.the-variants as Written
-use Rattle.panel.specs.Outputs.{Wrote, Ended, turned}
+use Rattle.answers.specs.declared.Written.{Written}
+use Rattle.answers.specs.declared.Written.the-variants as Written
+use Rattle.write_files.specs.Outputs.{Wrote, Ended, turned}
 
 module _ (f : List ℕ) {a : Arrays} {v : Added} (g : Gave (readOrder f) a v) where
   -- An accepted order file gives the drawing that the arrays hold,

@@ -16,7 +16,7 @@ use Rattle.store_links.specs.Arrays.{Arrays}
 use Rattle.exchange.specs.Built.{Whole}
 use Rattle.exchange.specs.DrawingRead.{whole-judged}
 use Rattle.read_drawings.specs.Contracted.{LinesRead}
-use Rattle.panel.specs.Outputs.{Ended}
+use Rattle.write_files.specs.Outputs.{Ended}
 
 -- what comes back once the bytes are compared
 back : (f : List ℕ) (d : Plan) → Whole d → judgeDrawing f ≡ good d → orderBack f ≡ (compareBytes 0 f (drawingBytes d) >> good (writeOrder d))

@@ -1,4 +1,5 @@
 // Order files into drawing files and back, in buffers that the caller lends; and both files of a drawing, and the drawing of an order file.
+use answers::Written;
 use drawing::Done;
 use drawing::Drawing;
 use rules::Answer;
@@ -7,12 +8,11 @@ use rules::Refusal;
 use rules::drawing_length;
 use store_links::Counts;
 use store_tables::END;
-use store_tables::POINTS;
 use store_tables::Table;
 ghost use mathlib.Core.Path.{_≡_};
 ghost use Rattle.rules.specs.Refusals.{good, answer};
 ghost use Rattle.rules.specs.Points.{Drawing as Plan};
-ghost use Rattle.rules.specs.OrderFile.{readOrder, writeOrder};
+ghost use Rattle.rules.specs.OrderFile.{readOrder};
 ghost use Rattle.rules.specs.DrawingFile.{drawingBytes, writeDrawing, drawFile, readDrawing, orderBack, compareBytes};
 ghost use Rattle.promise.specs.Promise.{Promise};
 ghost use Rattle.store_tables.specs.Tables.{arraysIn};
@@ -20,40 +20,8 @@ ghost use Rattle.store_laws.specs.Adding.{Holds};
 ghost use Rattle.exchange.specs.Built.{Reached, Whole};
 ghost use Rattle.drawing.specs.View.{Is, Came};
 ghost use Rattle.drawing.specs.Opens.{Gives};
-ghost use Rattle.panel.specs.Outputs.{Wrote, Ended, wholeOrder};
-
-// What a call that writes answers: the number of bytes written, or a refusal with its place.
-pub enum Written {
-    Bytes(usize),
-    Refused(Refusal, usize),
-}
-
-// Writes the drawing file of the finished drawing that the table holds.
-fn put_drawing(out: &mut [u8], table: &Table, c: Counts) -> Written
-    requires { ⌜ Ended (arraysIn (now table)) c ⌝ }
-    ensures { λ r. ⌜ ((d : Plan) → Whole d → Holds d (arraysIn (now (table .entry))) c → Wrote (now (out .entry)) (good (drawingBytes d)) (now (out .exit)) r) ⌝ }
-{
-    let need = drawing_length(c.n);
-    if out.len() < need {
-        return Written::Refused(Refusal::OutputShort, 0);
-    }
-    let mut x = [0u16; POINTS];
-    store_settling::settle(&mut x, table, c.k);
-    write_drawings::write_drawing(out, &x, table, c);
-    Written::Bytes(need)
-}
-
-// Writes its order file.
-fn put_order(out: &mut [u8], table: &Table, c: Counts) -> Written
-    requires { ⌜ Ended (arraysIn (now table)) c ⌝ }
-    ensures { λ r. ⌜ ((d : Plan) → Whole d → Holds d (arraysIn (now (table .entry))) c → Wrote (now (out .entry)) (good (writeOrder d)) (now (out .exit)) r) ⌝ }
-{
-    let length = write_orders::order_length(c);
-    if out.len() < length {
-        return Written::Refused(Refusal::OutputShort, 0);
-    }
-    Written::Bytes(write_orders::write_order(out, table, c))
-}
+ghost use Rattle.write_files.specs.Outputs.{Wrote, Ended};
+ghost use Rattle.panel.specs.Finishing.{wholeOrder};
 
 // The drawing of an order file, by value, which keeps demand 3; with a refusal goes a drawing of zeros.
 pub fn drawing_of(order: &[u8]) -> Done
@@ -82,7 +50,7 @@ pub fn write_file(out: &mut [u8], table: &Table, c: Counts) -> Written
     if c.k < c.n {
         return Written::Refused(Refusal::Unfinished, 0);
     }
-    put_drawing(out, table, c)
+    write_files::put_drawing(out, table, c)
 }
 
 // The drawing file of a drawing by value.
@@ -102,7 +70,7 @@ pub fn order_file(d: Drawing, out: &mut [u8]) -> Written
     if numbers.k < numbers.n {
         return Written::Refused(Refusal::Unfinished, 0);
     }
-    put_order(out, &d.table, numbers)
+    write_files::put_order(out, &d.table, numbers)
 }
 
 // Draws an order file: the drawing file of its drawing, which keeps demand 3, or the refusal of document 01.
@@ -116,7 +84,7 @@ pub fn draw(order: &[u8], out: &mut [u8]) -> Written
     let answer = given.answer;
     match answer {
         Answer::Refused(r, p) => Written::Refused(r, p),
-        Answer::Accepted => put_drawing(out, &table, c),
+        Answer::Accepted => write_files::put_drawing(out, &table, c),
     }
 }
 
@@ -127,7 +95,7 @@ fn compare_drawing(file: &[u8], table: &Table, c: Counts) -> Answer
 {
     let mut drawn = [0u8; LONGEST_DRAWING];
     let need = drawing_length(c.n);
-    put_drawing(&mut drawn, table, c);
+    write_files::put_drawing(&mut drawn, table, c);
     read_comparing::compare(file, &drawn[..need])
 }
 
@@ -146,7 +114,7 @@ pub fn undraw(file: &[u8], out: &mut [u8]) -> Written
             let same = compare_drawing(file, &table, c);
             match same {
                 Answer::Refused(r, p) => Written::Refused(r, p),
-                Answer::Accepted => put_order(out, &table, c),
+                Answer::Accepted => write_files::put_order(out, &table, c),
             }
         }
     }

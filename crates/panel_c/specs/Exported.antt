@@ -21,9 +21,9 @@ use Rattle.drawing.specs.declared.Done.{Done}
 use Rattle.drawing.specs.View.{Is, Came}
 use Rattle.calls.specs.Lists.{callsIn}
 use Rattle.calls.specs.Ran.{Ran}
-use Rattle.panel.specs.declared.Written.{Written}
-use Rattle.panel.specs.declared.Written.the-variants.{Refused}
-use Rattle.panel.specs.Outputs.{Wrote, turned}
+use Rattle.answers.specs.declared.Written.{Written}
+use Rattle.answers.specs.declared.Written.the-variants.{Refused}
+use Rattle.write_files.specs.Outputs.{Wrote, turned}
 use Rattle.panel_told.specs.Telling.{outputBuffer, answersBuffer, refusalWords, codeOf, refusalOf}
 use Rattle.panel_told.specs.Answers.{fileGiven}
 

@@ -4,17 +4,17 @@ use mathlib.Core.Path.{_≡_}
 use lib.Ieee.{Float}
 use Rattle.rules.specs.Lookups.{lookPoint, lookLine, LooksCut}
 use Rattle.rules.specs.Moves.{moveAt}
-use Rattle.drawing.specs.declared.PointSeen.{PointSeen}
-use Rattle.drawing.specs.declared.PointSeen.the-variants as Point
-use Rattle.drawing.specs.declared.LineSeen.{LineSeen}
-use Rattle.drawing.specs.declared.LineSeen.the-variants as Line
-use Rattle.drawing.specs.declared.CutSeen.{CutSeen}
-use Rattle.drawing.specs.declared.CutSeen.the-variants as Cut
-use Rattle.drawing.specs.View.{pointSeen, lineSeen, toldCut}
+use Rattle.answers.specs.declared.PointSeen.{PointSeen}
+use Rattle.answers.specs.declared.PointSeen.the-variants as Point
+use Rattle.answers.specs.declared.LineSeen.{LineSeen}
+use Rattle.answers.specs.declared.LineSeen.the-variants as Line
+use Rattle.answers.specs.declared.CutSeen.{CutSeen}
+use Rattle.answers.specs.declared.CutSeen.the-variants as Cut
+use Rattle.answers.specs.Told.{pointSeen, lineSeen, toldCut}
 use Rattle.tool.specs.declared.Tool.{Tool}
 use Rattle.tool.specs.Checking.{wholeTool}
-use Rattle.cutter.specs.declared.Moved.{Moved}
-use Rattle.cutter.specs.declared.Moved.the-variants as Moved
+use Rattle.answers.specs.declared.Moved.{Moved}
+use Rattle.answers.specs.declared.Moved.the-variants as Moved
 use Rattle.cutter.specs.Seen.{MoveSeen}
 use Rattle.panel_told.specs.Answers.{moveGiven, pointGiven, lineGiven, cutGiven}
 use Rattle.panel_c.specs.Asking.{Question}

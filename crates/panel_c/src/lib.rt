@@ -1,10 +1,10 @@
 // What C and Rust call: numbers, slices and arrays only, and no `requires`.
 // Each call puts three words of a refusal into `refusal`: its number, its place, and at 24 which buffer was short, 1 the output or 2 the answers; all 0 for none.
-use cutter::Moved;
-use drawing::CutSeen;
-use drawing::LineSeen;
-use drawing::PointSeen;
-use panel::Written;
+use answers::CutSeen;
+use answers::LineSeen;
+use answers::Moved;
+use answers::PointSeen;
+use answers::Written;
 use panel_told::ANSWERS;
 use panel_told::NO_BUFFER;
 use panel_told::OUTPUT;
@@ -73,7 +73,7 @@ fn move_from(answer: Answer, table: &Table, c: Counts, t: Tool, number: usize) -
     match answer {
         Answer::Refused(r, p) => Moved::Refused(r, p),
         Answer::Accepted => {
-            let x = drawing::settled(table, c.k);
+            let x = store_looking::settled(table, c.k);
             cutter::look_move(table, &x, c, t, number)
         }
     }
@@ -141,8 +141,8 @@ fn point_from(answer: Answer, table: &Table, c: Counts, p: usize) -> PointSeen
     match answer {
         Answer::Refused(r, p) => PointSeen::Refused(r, p),
         Answer::Accepted => {
-            let x = drawing::settled(table, c.k);
-            drawing::look_point(table, &x, c, p)
+            let x = store_looking::settled(table, c.k);
+            store_looking::look_point(table, &x, c, p)
         }
     }
 }
@@ -193,8 +193,8 @@ fn line_from(answer: Answer, table: &Table, c: Counts, e: usize) -> LineSeen
     match answer {
         Answer::Refused(r, p) => LineSeen::Refused(r, p),
         Answer::Accepted => {
-            let x = drawing::settled(table, c.k);
-            drawing::look_line(table, &x, c, e)
+            let x = store_looking::settled(table, c.k);
+            store_looking::look_line(table, &x, c, e)
         }
     }
 }
@@ -244,7 +244,7 @@ fn cut_from(answer: Answer, table: &Table, c: Counts, p: usize) -> CutSeen
 {
     match answer {
         Answer::Refused(r, p) => CutSeen::Refused(r, p),
-        Answer::Accepted => drawing::look_cut(table, c, p),
+        Answer::Accepted => store_looking::look_cut(table, c, p),
     }
 }
 

@@ -6,17 +6,17 @@ use Rattle.rules.specs.declared.Bend.{Bend}
 use Rattle.rules.specs.declared.Bend.the-variants.{Left, Right, Middle, Straight}
 use Rattle.rules.specs.Basics.{if_then_else_}
 use Rattle.rules.specs.Refusals.{Result, good, refused}
-use Rattle.drawing.specs.declared.PointSeen.{PointSeen}
-use Rattle.drawing.specs.declared.PointSeen.the-variants as Point
-use Rattle.drawing.specs.declared.LineSeen.{LineSeen}
-use Rattle.drawing.specs.declared.LineSeen.the-variants as Line
-use Rattle.drawing.specs.declared.CutSeen.{CutSeen}
-use Rattle.drawing.specs.declared.CutSeen.the-variants as Cut
-use Rattle.panel.specs.declared.Written.{Written}
-use Rattle.panel.specs.declared.Written.the-variants as Written
+use Rattle.answers.specs.declared.PointSeen.{PointSeen}
+use Rattle.answers.specs.declared.PointSeen.the-variants as Point
+use Rattle.answers.specs.declared.LineSeen.{LineSeen}
+use Rattle.answers.specs.declared.LineSeen.the-variants as Line
+use Rattle.answers.specs.declared.CutSeen.{CutSeen}
+use Rattle.answers.specs.declared.CutSeen.the-variants as Cut
+use Rattle.answers.specs.declared.Written.{Written}
+use Rattle.answers.specs.declared.Written.the-variants as Written
 use Rattle.tool.specs.declared.Move.the-variants as Move
-use Rattle.cutter.specs.declared.Moved.{Moved}
-use Rattle.cutter.specs.declared.Moved.the-variants as Moved
+use Rattle.answers.specs.declared.Moved.{Moved}
+use Rattle.answers.specs.declared.Moved.the-variants as Moved
 use Rattle.panel_told.specs.Telling.{Given, withWords, alone}
 
 -- a file that was written: the number of its bytes

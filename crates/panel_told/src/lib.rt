@@ -1,10 +1,10 @@
 // What C is told of an answer: a number, the words of the answer in the caller's array, and three words of a refusal, 0, 0, 0 for none.
 // A refusal is the number 0 and leaves the array. For `panel_c`, which has the answers.
-use cutter::Moved;
-use drawing::CutSeen;
-use drawing::LineSeen;
-use drawing::PointSeen;
-use panel::Written;
+use answers::CutSeen;
+use answers::LineSeen;
+use answers::Moved;
+use answers::PointSeen;
+use answers::Written;
 use rules::Bend;
 use rules::Refusal;
 use tool::Move;

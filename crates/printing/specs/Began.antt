@@ -8,8 +8,8 @@ use lib.Seq.{take-all, length-take-le}
 use Rattle.rules.specs.Refusals.{Result}
 use Rattle.rules.specs.DrawingFile.{drawFile, orderBack, longestDrawing}
 use Rattle.rules.specs.Output.{judgedBytes}
-use Rattle.panel.specs.declared.Written.{Written}
-use Rattle.panel.specs.Outputs.{Wrote}
+use Rattle.answers.specs.declared.Written.{Written}
+use Rattle.write_files.specs.Outputs.{Wrote}
 use Rattle.exchange.specs.FirstBytes.{first-bytes}
 
 -- the first n bytes of the buffer are the file, or as much of it as the buffer holds

@@ -12,9 +12,10 @@ use Rattle.rules.specs.OrderFile.{longestOrder}
 use Rattle.rules.specs.DrawingFile.{drawFile, orderBack, longestDrawing}
 use Rattle.rules.specs.Output.{fitted, counted, filled, refusalLine, printed}
 use Rattle.exchange.specs.Lengths.{drawn-most, back-most}
-use Rattle.panel.specs.declared.Written.{Written}
-use Rattle.panel.specs.declared.Written.the-variants.{Bytes, Refused}
-use Rattle.panel.specs.Outputs.{toldWritten, Wrote}
+use Rattle.answers.specs.declared.Written.{Written}
+use Rattle.answers.specs.declared.Written.the-variants.{Bytes, Refused}
+use Rattle.answers.specs.Told.{toldWritten}
+use Rattle.write_files.specs.Outputs.{Wrote}
 use Rattle.printing.specs.Putting.{Printed}
 
 -- ---- what the page holds

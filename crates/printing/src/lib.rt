@@ -1,6 +1,6 @@
 // What the two programs print: from the bytes read to the bytes to write, proved equal to `Output.program` and `Output.backProgram`.
 // The functions ask for buffers of document 01's sizes, so that 24 never happens; `files` has them.
-use panel::Written;
+use answers::Written;
 use rules::Refusal;
 ghost use mathlib.Core.Path.{_≡_};
 ghost use Prim.Native.Nat.{ℕ, _+_, _≤_, _<_};
@@ -11,7 +11,7 @@ ghost use Rattle.rules.specs.OrderFile.{longestOrder};
 ghost use Rattle.rules.specs.DrawingFile.{longestDrawing};
 ghost use Rattle.rules.specs.Decimal.{digits};
 ghost use Rattle.rules.specs.Output.{refusalLine, printed, judgedBytes, program, backProgram};
-ghost use Rattle.panel.specs.Outputs.{Wrote};
+ghost use Rattle.write_files.specs.Outputs.{Wrote};
 ghost use Rattle.printing.specs.Putting.{Put, Printed, mostDigits, lineRoom};
 ghost use Rattle.printing.specs.Finishing.{Room};
 ghost use Rattle.printing.specs.Began.{Began};

@@ -14,8 +14,7 @@ use Rattle.rules.specs.DrawingFile.{group, behind, groupPlace, judgeRest, judge
 use Rattle.store_links.specs.declared.Added.{Added}
 use Rattle.store_links.specs.declared.Counts.{Counts}
 use Rattle.store_links.specs.Arrays.{Arrays}
-use Rattle.store_laws.specs.Adding.{Holds}
-use Rattle.store_adding.specs.Calls.{Ready}
+use Rattle.store_laws.specs.Adding.{Holds, Ready}
 use Rattle.read_groups.specs.Lines.{linesAt}
 
 -- an answer, with a refusal at this place

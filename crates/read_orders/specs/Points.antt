@@ -12,8 +12,7 @@ use Rattle.rules.specs.OrderFile.{readRest}
 use Rattle.store_links.specs.declared.Added.{Added}
 use Rattle.store_links.specs.declared.Counts.{Counts}
 use Rattle.store_links.specs.Arrays.{Arrays}
-use Rattle.store_laws.specs.Adding.{Holds}
-use Rattle.store_adding.specs.Calls.{Ready}
+use Rattle.store_laws.specs.Adding.{Holds, Ready}
 use Rattle.store_points.specs.Zeros.{zeros}
 use Rattle.read_orders.specs.declared.Step.{Step}
 use Rattle.read_orders.specs.declared.Step.the-variants as step

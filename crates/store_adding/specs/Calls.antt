@@ -4,19 +4,12 @@ use mathlib.Core.Path.{_≡_}
 use mathlib.Core.List.{List}
 use lib.ListN.{length}
 use Rattle.rules.specs.Refusals.{answer}
-use Rattle.rules.specs.Points.{Drawing}
 use Rattle.store_links.specs.declared.Added.{Added}
 use Rattle.store_links.specs.declared.Counts.{Counts}
 use Rattle.store_links.specs.Arrays.{Arrays, atPoint}
 use Rattle.store_links.specs.Placing.{entryPoint, way}
 use Rattle.store_links.specs.Runs.{Within}
 use Rattle.store_links.specs.Storing.{judged, arraysAfter, countsAfter}
-use Rattle.store_laws.specs.Adding.{Holds}
-
--- the arrays and numbers hold a drawing that came from opening and calls
-pub record Ready (a : Arrays) (c : Counts) : Type 0 where
-  pub d : Drawing
-  pub holds : Holds d a c
 
 -- the call is judged, and the arrays and numbers are those after it
 pub record Answered (a : Arrays) (c : Counts) (es : List ℕ) (a′ : Arrays) (r : Added) : Type 0 where

@@ -29,7 +29,8 @@ use Rattle.store_placing.specs.declared.Ports.the-variants as Ports
 use Rattle.store_placing.specs.Ports.{portsFor, from-told, none-told}
 use Rattle.store_placing.specs.Small.{Small}
 use Rattle.store_calls.specs.Storable.{Storable}
-use Rattle.store_adding.specs.Calls.{Ready, Answered, Runs}
+use Rattle.store_laws.specs.Adding.{Ready}
+use Rattle.store_adding.specs.Calls.{Answered, Runs}
 
 -- the tests before 25
 abbrev pub tests : Arrays → Counts → List ℕ → Result (Unit {0})

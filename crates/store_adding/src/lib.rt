@@ -17,7 +17,8 @@ ghost use Rattle.store_links.specs.Placing.{entryPoint};
 ghost use Rattle.store_links.specs.Runs.{Within};
 ghost use Rattle.store_links.specs.Storing.{spotFor, withCounts};
 ghost use Rattle.store_tables.specs.Tables.{Full, arraysIn};
-ghost use Rattle.store_adding.specs.Calls.{Ready, Runs, Answered};
+ghost use Rattle.store_laws.specs.Adding.{Ready};
+ghost use Rattle.store_adding.specs.Calls.{Runs, Answered};
 ghost use Prim.Native.Nat.{pred, _≤_, _<_};
 ghost use lib.ListN.{length};
 

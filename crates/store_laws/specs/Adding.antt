@@ -24,6 +24,11 @@ pub record Holds (d : Drawing) (a : Arrays) (c : Counts) : Type 0 where
   pub sized : Sized a
   pub stores : Stores d a c
 
+-- they hold some drawing
+pub record Ready (a : Arrays) (c : Counts) : Type 0 where
+  pub d : Drawing
+  pub holds : Holds d a c
+
 -- what a call leaves
 pub record Called (d : Drawing) (a : Arrays) (c : Counts) (es : List ℕ) (j : Result (Unit {0})) (e : Result Drawing) : Type 0 where
   pub answers : answer j ≡ answer e

@@ -1,11 +1,8 @@
 // Writes the drawing file of a finished drawing from the lent table and its settled x.
 // For `panel`: it asks for a finished drawing and room in the buffer, which are tested there.
-use rules::DRAWING_MARK;
 use rules::DRAWING_SIZE;
 use rules::END_MARK;
-use rules::LINE_MARK;
 use rules::LINE_SIZE;
-use rules::PLACE_MARK;
 use rules::PLACE_SIZE;
 use store_links::Counts;
 use store_settling::bend_of;
@@ -17,13 +14,11 @@ use words::broad;
 use words::narrow;
 use words::put_word;
 ghost use mathlib.Core.Path.{_≡_};
-ghost use mathlib.Core.List.{[], _∷_};
-ghost use Prim.Native.Nat.{_+_, _*_, _<_, _≤_};
+ghost use Prim.Native.Nat.{_≤_};
 ghost use lib.ListN.{length, take};
-ghost use Rattle.rules.specs.Basics.{if_then_else_};
 ghost use Rattle.rules.specs.Points.{Drawing};
 ghost use Rattle.rules.specs.Refusals.{good};
-ghost use Rattle.rules.specs.Records.{headSize, placeSize, lineSize, written, drawingHead, pointPlace, lineShape};
+ghost use Rattle.rules.specs.Records.{headSize};
 ghost use Rattle.rules.specs.DrawingFile.{highest, drawingBytes};
 ghost use Rattle.rules.specs.Output.{filled};
 ghost use Rattle.store_tables.specs.Tables.{Full, arraysIn};
@@ -48,28 +43,6 @@ fn largest(ys: &[u16], k: usize) -> usize
     top
 }
 
-// The header: 44 48, n, s, width, height.
-fn write_head(out: &mut [u8], n: u16, s: u16, width: u16, height: u16)
-    requires { ⌜ headSize ≤ length (now out) ⌝ }
-    ensures { λ _. ⌜ Stored (now (out .entry)) 0 (written drawingHead (n ∷ s ∷ width ∷ height ∷ [])) (now (out .exit)) ⌝ }
-{
-    put_word(out, 0, DRAWING_MARK);
-    put_word(out, 2, n);
-    put_word(out, 4, s);
-    put_word(out, 6, width);
-    put_word(out, 8, height);
-}
-
-// A point's record: 50 4F, x, y.
-fn write_point(out: &mut [u8], at: usize, x: u16, y: u16)
-    requires { ⌜ at + placeSize ≤ length (now out) ⌝ }
-    ensures { λ _. ⌜ Stored (now (out .entry)) at (written pointPlace (x ∷ y ∷ [])) (now (out .exit)) ⌝ }
-{
-    put_word(out, at, PLACE_MARK);
-    put_word(out, at + 2, x);
-    put_word(out, at + 4, y);
-}
-
 // The records of the first k points, behind the header.
 fn write_points(out: &mut [u8], x: &[u16; POINTS], ys: &[u16], s: usize, k: usize)
     requires { ⌜ PointsReady (now x) (now ys) s k (now out) ⌝ }
@@ -79,29 +52,9 @@ fn write_points(out: &mut [u8], x: &[u16; POINTS], ys: &[u16], s: usize, k: usiz
     while i < k {
         let px = narrow(s * broad(x[i]));
         let py = narrow(s * broad(ys[i]));
-        write_point(out, DRAWING_SIZE + PLACE_SIZE * i, px, py);
+        write_records::put_place(out, DRAWING_SIZE + PLACE_SIZE * i, px, py);
         i += 1;
     }
-}
-
-// How a line is marked: 1 for cut, 0 for guide.
-fn mark_of(cut: bool) -> u16
-    ensures { λ r. ⌜ r ≡ (if cut then 1 else 0) ⌝ }
-{
-    if cut { 1 } else { 0 }
-}
-
-// A line's record: 4C 4E, later point, earlier point, bend x, bend y, its mark.
-fn write_numbers(out: &mut [u8], at: usize, later: u16, earlier: u16, x: u16, y: u16, mark: u16)
-    requires { ⌜ at + lineSize ≤ length (now out) ⌝ }
-    ensures { λ _. ⌜ Stored (now (out .entry)) at (written lineShape (later ∷ earlier ∷ x ∷ y ∷ mark ∷ [])) (now (out .exit)) ⌝ }
-{
-    put_word(out, at, LINE_MARK);
-    put_word(out, at + 2, later);
-    put_word(out, at + 4, earlier);
-    put_word(out, at + 6, x);
-    put_word(out, at + 8, y);
-    put_word(out, at + 10, mark);
 }
 
 // The record of line e, from what the table holds of it.
@@ -114,7 +67,15 @@ fn write_line(out: &mut [u8], at: usize, x: &[u16; POINTS], table: &[u16], s: us
     let place = bend_of(x, table, broad(l.later), broad(l.earlier), bend);
     let bend_x = narrow(s * broad(place.x));
     let bend_y = narrow(s * broad(place.y));
-    write_numbers(out, at, l.later, l.earlier, bend_x, bend_y, mark_of(l.cut));
+    write_records::put_line(
+        out,
+        at,
+        l.later,
+        l.earlier,
+        bend_x,
+        bend_y,
+        write_records::mark_of(l.cut),
+    );
 }
 
 // The records of the first `count` lines, from the place `at` on.
@@ -140,7 +101,7 @@ pub fn write_drawing(out: &mut [u8], x: &[u16; POINTS], table: &[u16], c: Counts
     let s = c.s;
     let width = narrow(s * broad(x[1]));
     let height = narrow(s * largest(&table[YS..DLS], c.k));
-    write_head(out, narrow(c.n), narrow(s), width, height);
+    write_records::put_head(out, narrow(c.n), narrow(s), width, height);
     write_points(out, x, &table[YS..DLS], s, c.k);
     let points = PLACE_SIZE * c.k;
     write_lines(out, DRAWING_SIZE + points, x, table, s, c.lines);

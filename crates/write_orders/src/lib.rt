@@ -1,6 +1,5 @@
 // The order writer: the order file of a finished drawing, in one pass over its stored lines.
 // For `panel`: it asks for a finished drawing and room in the buffer, which are tested there.
-use rules::END_MARK;
 use rules::ENTRIES_MARK;
 use rules::NUMBER_SIZE;
 use rules::ORDER_MARK;
@@ -10,11 +9,9 @@ use store_tables::BENDS;
 use store_tables::LATER;
 use store_tables::WORDS;
 ghost use mathlib.Core.Path.{_≡_};
-ghost use Prim.Native.Nat.{_+_, _-_, _*_, _<_, _≤_};
-ghost use mathlib.Core.List.{[], _∷_};
+ghost use Prim.Native.Nat.{_+_, _-_, _*_, _≤_};
 ghost use lib.ListN.{length};
 ghost use Rattle.rules.specs.Points.{Drawing};
-ghost use Rattle.rules.specs.Records.{endMark};
 ghost use Rattle.rules.specs.OrderFile.{writeOrder, longestOrder};
 ghost use Rattle.store_links.specs.Arrays.{Stores};
 ghost use Rattle.store_tables.specs.Tables.{Full, arraysIn};
@@ -45,16 +42,6 @@ fn count_lines(later: &[u16], p: usize, from: usize, lines: usize) -> usize
     count
 }
 
-// Writes a mark and a number behind it. Returns the place behind both, as all of these do.
-fn put_two(out: &mut [u8], at: usize, mark: u16, v: usize) -> usize
-    requires { ⌜ (v < 65536) × (at + 3 < length (now out)) ⌝ }
-    ensures { λ r. ⌜ Pasted (now (out .entry)) at (mark ∷ v ∷ []) (now (out .exit)) r ⌝ }
-{
-    words::put_word(out, at, mark);
-    words::put_word(out, at + 2, words::narrow(v));
-    at + 4
-}
-
 // Writes the entries of `count` lines, from the line `from` on.
 fn put_entries(out: &mut [u8], at: usize, words: &[u16], from: usize, count: usize) -> usize
     requires { ⌜ (length (now words) ≡ 3072) × (from + count ≤ 3072) × (at + 2 * count ≤ length (now out)) ⌝ }
@@ -75,7 +62,7 @@ fn put_point(out: &mut [u8], at: usize, words: &[u16], from: usize, count: usize
     requires { ⌜ (length (now words) ≡ 3072) × (from + count ≤ 3072) × (at + 4 + 2 * count ≤ length (now out)) ⌝ }
     ensures { λ r. ⌜ Pasted (now (out .entry)) at (pointWords (now (words .entry)) from count) (now (out .exit)) r ⌝ }
 {
-    let place = put_two(out, at, ENTRIES_MARK, count);
+    let place = write_records::put_two(out, at, ENTRIES_MARK, count);
     put_entries(out, place, words, from, count)
 }
 
@@ -108,21 +95,11 @@ fn put_head(out: &mut [u8], n: usize, s: usize) -> usize
     requires { ⌜ (n ≤ 1024) × (s ≤ 8) × (2 * length (headWords n s) ≤ length (now out)) ⌝ }
     ensures { λ r. ⌜ Pasted (now (out .entry)) 0 (headWords n s) (now (out .exit)) r ⌝ }
 {
-    let place = put_two(out, 0, ORDER_MARK, n);
+    let place = write_records::put_two(out, 0, ORDER_MARK, n);
     if s == 1 {
         return place;
     }
-    put_two(out, place, SCALE_MARK, s)
-}
-
-// Writes the end record.
-fn put_end(out: &mut [u8], at: usize) -> usize
-    requires { ⌜ at + 1 < length (now out) ⌝ }
-    ensures { λ r. ⌜ Pasted (now (out .entry)) at (endMark ∷ []) (now (out .exit)) r ⌝ }
-{
-    let end = at + 2;
-    words::put_word(out, at, END_MARK);
-    end
+    write_records::put_two(out, place, SCALE_MARK, s)
 }
 
 // Writes the order file of the finished drawing that the table holds. Returns the number of bytes.
@@ -139,7 +116,7 @@ pub fn write_order(out: &mut [u8], table: &[u16], c: Counts) -> usize
         c.n,
         c.lines,
     );
-    put_end(out, end)
+    write_records::put_end(out, end)
 }
 
 // How many bytes the order file of a finished drawing with these numbers has.

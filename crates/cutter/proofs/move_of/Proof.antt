@@ -7,6 +7,7 @@ use Rattle.rules.specs.Points.{Drawing as Plan, placeOf, lineAt}
 use Rattle.rules.specs.Ports.{bendPlace}
 use Rattle.store_laws.specs.Adding.{Holds}
 use Rattle.store_tables.specs.Tables.{arraysIn}
+use Rattle.drawing.specs.Places.{looks}
 use Rattle.cutter.specs.Grid.{scale, point-on-grid, bend-on-grid, later-there, earlier-there, line-seen, line-sure}
 use Rattle.cutter.specs.Seen.{line-moved}
 use borrow.Author.Needs.{needs}
@@ -14,7 +15,7 @@ use Rattle.cutter.proofs.move_of.Statement.{statement}
 use Rattle.cutter.proofs.move_of.Tie as tie
 
 look-line-requires : tie.Need-look-line-requires
-look-line-requires c κs = search needs
+look-line-requires c κs = looks (c .pre .0)
 
 enum-known-l : tie.Need-enum-known-l
 enum-known-l c = search needs

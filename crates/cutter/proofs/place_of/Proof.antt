@@ -4,7 +4,8 @@ use Rattle.rules.specs.Points.{Drawing as Plan}
 use Rattle.rules.specs.Lookups.{lookPoint}
 use Rattle.store_laws.specs.Adding.{Holds}
 use Rattle.store_tables.specs.Tables.{arraysIn}
-use Rattle.drawing.specs.View.{pointSeen}
+use Rattle.answers.specs.Told.{pointSeen}
+use Rattle.drawing.specs.Places.{looks}
 use Rattle.cutter.specs.Grid.{place-seen, place-sure}
 use borrow.Author.Needs.{needs}
 use Rattle.cutter.proofs.place_of.Statement.{statement}
@@ -14,7 +15,7 @@ broad-requires : tie.Need-broad-requires
 broad-requires c κs = search needs
 
 look-point-requires : tie.Need-look-point-requires
-look-point-requires c κs = search needs
+look-point-requires c κs = looks (c .before .pre .0)
 
 enum-known-a : tie.Need-enum-known-a
 enum-known-a c = search needs

@@ -1,6 +1,6 @@
 -- `settle` meets its contract.
 use mathlib.Core.Path.{refl}
-use Rattle.drawing.specs.Places.{settleable}
+use Rattle.store_looking.specs.Places.{settleable}
 use Rattle.drawing.proofs.settle.Statement.{statement}
 use Rattle.drawing.proofs.settle.Tie as tie
 

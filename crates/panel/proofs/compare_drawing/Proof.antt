@@ -4,7 +4,7 @@ use lib.ListN.{length}
 use borrow.Author.Needs.{needs}
 use Rattle.rules.specs.Refusals.{answer}
 use Rattle.rules.specs.DrawingFile.{compareBytes}
-use Rattle.panel.specs.Files.{need-is, begins}
+use Rattle.write_files.specs.Files.{need-is, begins}
 use Rattle.panel.proofs.compare_drawing.Statement.{statement}
 use Rattle.panel.proofs.compare_drawing.Tie as tie
 

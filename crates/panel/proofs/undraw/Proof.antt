@@ -1,7 +1,7 @@
 -- `panel::undraw` meets its contract: what the reader gave is a whole drawing, whose bytes are compared and whose order file is then written, or a refusal.
 use mathlib.Core.Path.{sym, _∙_}
 use borrow.Author.Needs.{needs}
-use Rattle.panel.specs.Outputs.{turned}
+use Rattle.write_files.specs.Outputs.{turned}
 use Rattle.exchange.specs.Kept.{drawing-read-keeps}
 use Rattle.panel.specs.Undrawing.{lines-ended, lines-refused, bytes-differ, bytes-same}
 use Rattle.panel.proofs.undraw.Statement.{statement}

@@ -1,5 +1,5 @@
 -- `panel::write_file` meets its contract.
-use Rattle.panel.specs.Outputs.{turned}
+use Rattle.write_files.specs.Outputs.{turned}
 use Rattle.panel.specs.Finishing.{early, late, whole-late, ended-late}
 use borrow.Author.Needs.{needs}
 use Rattle.panel.proofs.write_file.Statement.{statement}

@@ -1,6 +1,6 @@
 -- `cut_from` meets its contract.
 use mathlib.Core.Path.{refl}
-use Rattle.drawing.specs.View.{Came}
+use Rattle.drawing.specs.View.{Came, stored}
 use borrow.Author.Needs.{needs}
 use Rattle.panel_c.proofs.cut_from.Statement.{statement}
 use Rattle.panel_c.proofs.cut_from.Tie as tie
@@ -16,7 +16,7 @@ came : (d : tie.After-enum-told) → Came (record { counts = d .before .before .
 came d = d .before .before .pre (d .enum-told .given .1)
 
 look-cut-requires : tie.Need-look-cut-requires
-look-cut-requires c κs = came c
+look-cut-requires c κs = stored (came c)
 
 returns : tie.Need-returns
 returns c = λ q is. rw (c .before .answer .given .1) refl

@@ -1,7 +1,7 @@
 -- `line_from` meets its contract.
 use mathlib.Core.Path.{refl}
-use Rattle.drawing.specs.View.{Came}
-use Rattle.drawing.specs.Places.{settleable}
+use Rattle.drawing.specs.View.{Came, stored}
+use Rattle.store_looking.specs.Places.{settleable}
 use borrow.Author.Needs.{needs}
 use Rattle.panel_c.proofs.line_from.Statement.{statement}
 use Rattle.panel_c.proofs.line_from.Tie as tie
@@ -22,7 +22,7 @@ settled-requires c κs = settleable (came c .is)
 look-line-requires : tie.Need-look-line-requires
 look-line-requires c κs =
     let s = c .before in
-    record { came = came (s .before); settled = s .settled .ensures }
+    (stored (came (s .before)), s .settled .ensures)
 
 returns : tie.Need-returns
 returns c = λ q is. rw (c .before .answer .given .1) refl

@@ -1,7 +1,7 @@
 -- `move_from` meets its contract.
 use mathlib.Core.Path.{refl}
 use Rattle.drawing.specs.View.{Came}
-use Rattle.drawing.specs.Places.{settleable}
+use Rattle.store_looking.specs.Places.{settleable}
 use borrow.Author.Needs.{needs}
 use Rattle.panel_c.proofs.move_from.Statement.{statement}
 use Rattle.panel_c.proofs.move_from.Tie as tie

@@ -78,8 +78,8 @@ at-lines c = at-points (c .before .before .before .before .before .before)
 abbrev at-end : tie.After-struct-known2 → tie.Start
 at-end c = at-lines (c .before .before .before .before .before)
 
-write-head-requires : tie.Need-write-head-requires
-write-head-requires c κs = omega (arith, known (at-head c) .room)
+put-head-requires : tie.Need-put-head-requires
+put-head-requires c κs = omega (arith, known (at-head c) .room)
 
 sub-write-points : tie.Need-sub-write-points
 sub-write-points c = search needs
@@ -93,7 +93,7 @@ part-write-points-end c = search needs
 write-points-requires : tie.Need-write-points-requires
 unfolding arraysIn
 write-points-requires c κs =
-    let h = c .before .before .before .before .write-head .kept .0 in
+    let h = c .before .before .before .before .put-head .kept .0 in
     points-ready (at-points (c .before) .pre .0 .finished) _ (omega (arith, h, known (at-points (c .before)) .room))
 
 mul-points : tie.Need-mul-points
@@ -105,7 +105,7 @@ add-write-lines c = omega (arith, known (at-lines c) .few)
 write-lines-requires : tie.Need-write-lines-requires
 write-lines-requires c κs =
     let p = c .before .before .before .before in
-    (lines-ready (at-lines c .pre .0 .finished) _ _ (omega (arith, p .before .before .before .before .before .write-head .kept .0, p .write-points .kept .0, known (at-lines c) .room)), at-lines c .pre .1)
+    (lines-ready (at-lines c .pre .0 .finished) _ _ (omega (arith, p .before .before .before .before .before .put-head .kept .0, p .write-points .kept .0, known (at-lines c) .room)), at-lines c .pre .1)
 
 add-put-word : tie.Need-add-put-word
 add-put-word c = omega (arith, known (at-lines (c .before .before .before .before)) .few)
@@ -120,7 +120,7 @@ put-word-requires : tie.Need-put-word-requires
 put-word-requires c κs =
     let l = c .before .before .before .before in
     let p = l .before .before .before .before .before in
-    omega (arith, p .before .before .before .before .before .write-head .kept .0, p .write-points .kept .0, l .write-lines .kept .0, known (at-end c) .room)
+    omega (arith, p .before .before .before .before .before .put-head .kept .0, p .write-points .kept .0, l .write-lines .kept .0, known (at-end c) .room)
 
 same-length : tie.Need-same-length
 same-length c = search needs
@@ -137,7 +137,7 @@ returns c d f =
     let w = t .before .before in
     let all =
     file-stored (s .args .x .now) (arrays s) (s .args .c) (h .before .before .before .narrow3 .ensures) (h .before .before .narrow4 .ensures) (w .before .before .before .broad .ensures) (w .before .before .narrow .ensures) (t .before .before .largest .ensures) (t .before .narrow2 .ensures)
-    (h .before .write-head .ensures) (p .write-points .ensures) (l .write-lines .ensures) (e .put-word .ensures) in
+    (h .before .put-head .ensures) (p .write-points .ensures) (l .write-lines .ensures) (e .put-word .ensures) in
     stored-filled (has-room (s .pre .0) f) (rw (file-is f) at all)
 
 pub write-drawing-spec : {M : Type 1} → statement M
@@ -156,7 +156,7 @@ write-drawing-spec =
     narrow-requires-2
     narrow-requires-3
     narrow-requires-4
-    write-head-requires
+    put-head-requires
     sub-write-points
     part-write-points-start
     part-write-points-end

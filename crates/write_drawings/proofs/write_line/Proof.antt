@@ -68,8 +68,8 @@ narrow-requires-2 c κs = y-fits c
 mark-of-requires : tie.Need-mark-of-requires
 mark-of-requires c κs = search needs
 
-write-numbers-requires : tie.Need-write-numbers-requires
-write-numbers-requires c κs = search needs
+put-line-requires : tie.Need-put-line-requires
+put-line-requires c κs = search needs
 
 same-length : tie.Need-same-length
 same-length c = search needs
@@ -85,7 +85,7 @@ returns c =
     (x .narrow .ensures ∙ rw (x .before .broad3 .ensures))
     (y .narrow2 .ensures ∙ rw (y .before .broad4 .ensures))
     (w .before .mark-of .ensures)
-    (w .write-numbers .ensures)
+    (w .put-line .ensures)
 
 pub write-line-spec : {M : Type 1} → statement M
 write-line-spec =
@@ -102,6 +102,6 @@ write-line-spec =
     mul-narrow-2
     narrow-requires-2
     mark-of-requires
-    write-numbers-requires
+    put-line-requires
     same-length
     returns)

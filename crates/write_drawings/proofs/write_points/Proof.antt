@@ -58,14 +58,14 @@ mul-narrow-2 c = omega (arith, y-fits c)
 narrow-requires-2 : tie.Need-narrow-requires-2 Inv-loop μ-loop
 narrow-requires-2 c κs = y-fits c
 
-mul-write-point : tie.Need-mul-write-point Inv-loop μ-loop
-mul-write-point c = search needs
+mul-put-place : tie.Need-mul-put-place Inv-loop μ-loop
+mul-put-place c = search needs
 
-add-write-point : tie.Need-add-write-point Inv-loop μ-loop
-add-write-point c = search needs
+add-put-place : tie.Need-add-put-place Inv-loop μ-loop
+add-put-place c = search needs
 
-write-point-requires : tie.Need-write-point-requires Inv-loop μ-loop
-write-point-requires c κs = search needs
+put-place-requires : tie.Need-put-place-requires Inv-loop μ-loop
+put-place-requires c κs = search needs
 
 add-i : tie.Need-add-i Inv-loop μ-loop
 add-i c = search needs
@@ -83,7 +83,7 @@ loop-again c =
       omega arith,
       omega arith,
       record-behind (pointBytes (a .s) (a .x .now) (a .ys .now)) placeSize (l .loop .i) (λ j. refl) refl (l .loop .inv .2)
-          (point-stored (a .s) (a .x .now) (a .ys .now) (l .loop .i) (x .narrow .ensures ∙ rw (x .before .broad .ensures)) (y .narrow2 .ensures ∙ rw (y .before .broad2 .ensures)) (w .write-point .ensures)),
+          (point-stored (a .s) (a .x .now) (a .ys .now) (l .loop .i) (x .narrow .ensures ∙ rw (x .before .broad .ensures)) (y .narrow2 .ensures ∙ rw (y .before .broad2 .ensures)) (w .put-place .ensures)),
     )
 
 same-length : tie.Need-same-length Inv-loop μ-loop
@@ -111,9 +111,9 @@ write-points-spec =
     broad-requires-2
     mul-narrow-2
     narrow-requires-2
-    mul-write-point
-    add-write-point
-    write-point-requires
+    mul-put-place
+    add-put-place
+    put-place-requires
     add-i
     loop-less
     loop-again
