@@ -15,11 +15,11 @@ use store_tables::YS;
 ghost use mathlib.Core.Path.{_≡_};
 ghost use Rattle.store_links.specs.Placing.{entryPoint};
 ghost use Rattle.store_links.specs.Runs.{Within};
-ghost use Rattle.store_links.specs.Storing.{spotFor, withCounts};
+ghost use Rattle.store_links.specs.Storing.{spotFor};
 ghost use Rattle.store_tables.specs.Tables.{Full, arraysIn};
 ghost use Rattle.store_laws.specs.Adding.{Ready};
 ghost use Rattle.store_adding.specs.Calls.{Runs, Answered};
-ghost use Prim.Native.Nat.{pred, _≤_, _<_};
+ghost use Prim.Native.Nat.{pred, _<_};
 ghost use lib.ListN.{length};
 
 // The index at which the arrays keep the point of entry i.
@@ -48,20 +48,6 @@ fn spot_over(e: &[u16], table: &[u16]) -> Spot
     )
 }
 
-// The numbers with one point more, and a line for each of its entries.
-fn counts_with(c: Counts, entries: usize) -> Counts
-    requires { ⌜ (c .k < 1024) × (c .m ≤ 1024) × (c .lines ≤ 3072) × (entries ≤ c .m) ⌝ }
-    ensures { λ r. ⌜ r ≡ withCounts c entries ⌝ }
-{
-    Counts {
-        n: c.n,
-        s: c.s,
-        k: c.k + 1,
-        m: c.m + 3 - entries,
-        lines: c.lines + entries,
-    }
-}
-
 // Adds a point with the entries e as its earlier neighbours, or refuses and leaves the table as it is.
 pub fn add(table: &mut [u16], c: Counts, e: &[u16]) -> Added
     requires { ⌜ Ready (arraysIn (now table)) c × Full (now table) ⌝ }
@@ -85,6 +71,6 @@ pub fn add(table: &mut [u16], c: Counts, e: &[u16]) -> Added
     store_calls::store(table, c, e, p, from);
     Added {
         answer: Answer::Accepted,
-        counts: counts_with(c, e.len()),
+        counts: store_links::counts_with(c, e.len()),
     }
 }

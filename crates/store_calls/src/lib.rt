@@ -1,9 +1,9 @@
 // What an accepted adding call stores into the lent table: its point, by `store_points`, and its lines.
 // For `store_adding`: it asks for entries that passed the tests, and for the new point's place.
-use rules::Bend;
 use store_links::Counts;
 use store_links::Spot;
 use store_links::bend_code;
+use store_links::new_bend;
 use store_points::cover;
 use store_points::grow_ports;
 use store_points::link;
@@ -16,32 +16,12 @@ use store_tables::WORDS;
 use words::narrow;
 use words::point_of;
 ghost use mathlib.Core.Path.{_≡_};
-ghost use Prim.Native.Nat.{suc, _+_, _-_, _<_, _≤_};
+ghost use Prim.Native.Nat.{suc, _-_};
 ghost use lib.ListN.{length};
-ghost use Rattle.rules.specs.Adding.{newBend};
 ghost use Rattle.store_links.specs.Storing.{codeOf, withPoint};
 ghost use Rattle.store_tables.specs.Tables.{Full, arraysIn};
 ghost use Rattle.store_calls.specs.Storable.{Pushable, Storable};
 ghost use Rattle.store_calls.specs.Stages.{lined};
-
-// The bend of entry i's line: at wl's new right port, wr's new left one, or a middle port.
-fn new_bend(rights: u16, lefts: u16, last: usize, from: usize, i: usize) -> Bend
-    requires { ⌜ i < 65535 ⌝ }
-    ensures { λ r. ⌜ r ≡ newBend rights lefts last from i ⌝ }
-{
-    if i == 0 {
-        return Bend::Right(rights);
-    }
-    if i == last {
-        return Bend::Left(lefts);
-    }
-    let next = i + 1;
-    if i < from {
-        Bend::Middle(narrow(i))
-    } else {
-        Bend::Middle(narrow(next))
-    }
-}
 
 // A line for each entry, from the new point, behind the lines that are there.
 fn push_lines(e: &[u16], table: &mut [u16], c: Counts, rights: u16, lefts: u16, from: usize)

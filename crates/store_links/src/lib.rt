@@ -3,9 +3,11 @@
 use rules::Answer;
 use rules::Bend;
 ghost use mathlib.Core.Path.{_≡_};
-ghost use Prim.Native.Nat.{_<_};
+ghost use Prim.Native.Nat.{_<_, _≤_};
+ghost use Rattle.rules.specs.Adding.{newBend};
 ghost use Rattle.store_links.specs.Codes.{bendCode, bendFrom};
 ghost use Rattle.store_links.specs.Opening.{noCounts};
+ghost use Rattle.store_links.specs.Storing.{withCounts};
 
 // What is added to a covered point's distance from its owner, so that a point to the left of it has a gap too.
 pub const GAP_OFFSET: usize = 32768;
@@ -54,6 +56,39 @@ pub fn no_counts() -> Counts
         k: 0,
         m: 0,
         lines: 0,
+    }
+}
+
+// The numbers with one point more, and a line for each of its entries.
+pub fn counts_with(c: Counts, entries: usize) -> Counts
+    requires { ⌜ (c .k < 1024) × (c .m ≤ 1024) × (c .lines ≤ 3072) × (entries ≤ c .m) ⌝ }
+    ensures { λ r. ⌜ r ≡ withCounts c entries ⌝ }
+{
+    Counts {
+        n: c.n,
+        s: c.s,
+        k: c.k + 1,
+        m: c.m + 3 - entries,
+        lines: c.lines + entries,
+    }
+}
+
+// The bend of entry i's line: at wl's new right port, wr's new left one, or a middle port.
+pub fn new_bend(rights: u16, lefts: u16, last: usize, from: usize, i: usize) -> Bend
+    requires { ⌜ i < 65535 ⌝ }
+    ensures { λ r. ⌜ r ≡ newBend rights lefts last from i ⌝ }
+{
+    if i == 0 {
+        return Bend::Right(rights);
+    }
+    if i == last {
+        return Bend::Left(lefts);
+    }
+    let next = i + 1;
+    if i < from {
+        Bend::Middle(i as u16)
+    } else {
+        Bend::Middle(next as u16)
     }
 }
 

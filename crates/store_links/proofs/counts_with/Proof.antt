@@ -1,12 +1,12 @@
--- `store_adding::counts_with`: the fields are the definition's.
+-- `counts_with`: the fields are the definition's.
 use Prim.Native.Nat.{ℕ, suc, _+_, _-_}
 use mathlib.Core.Path.{_≡_}
 use native.Mathlib.Omega.{arith}
 use borrow.Author.Needs.{needs}
 use Rattle.store_links.specs.declared.Counts.{Counts}
 use Rattle.store_links.specs.Storing.{withCounts}
-use Rattle.store_adding.proofs.counts_with.Statement.{statement}
-use Rattle.store_adding.proofs.counts_with.Tie as tie
+use Rattle.store_links.proofs.counts_with.Statement.{statement}
+use Rattle.store_links.proofs.counts_with.Tie as tie
 
 -- the numbers, one by one
 counted : (c : Counts) (entries k m lines : ℕ) → k ≡ suc (c .k) → m ≡ c .m + 3 - entries → lines ≡ c .lines + entries →
