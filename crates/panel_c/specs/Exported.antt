@@ -6,11 +6,8 @@ use mathlib.Core.List.{List}
 use lib.ListN.{length}
 use lib.Dec.{ltb}
 use borrow.Author.Tests.{ltb-true, ltb-false}
-use Rattle.rules.specs.declared.Answer.{Answer}
 use Rattle.rules.specs.declared.Answer.the-variants.{Accepted}
-use Rattle.rules.specs.declared.Answer.the-variants as Answer
-use Rattle.rules.specs.declared.Refusal.{Refusal}
-use Rattle.rules.specs.Refusals.{Result, good, refused, refusedWith, toldAnswer, _>>=_}
+use Rattle.rules.specs.Refusals.{Result, refusedWith, toldAnswer, _>>=_}
 use Rattle.rules.specs.Numbers.{never-gives}
 use Rattle.rules.specs.Points.{Drawing as Plan}
 use Rattle.rules.specs.Calls.{drawn}
@@ -22,10 +19,12 @@ use Rattle.drawing.specs.View.{Is, Came}
 use Rattle.calls.specs.Lists.{callsIn}
 use Rattle.calls.specs.Ran.{Ran}
 use Rattle.answers.specs.declared.Written.{Written}
-use Rattle.answers.specs.declared.Written.the-variants.{Refused}
-use Rattle.write_files.specs.Outputs.{Wrote, turned}
-use Rattle.panel_told.specs.Telling.{outputBuffer, answersBuffer, refusalWords, codeOf, refusalOf}
+use Rattle.write_files.specs.Outputs.{Wrote}
+use Rattle.panel_told.specs.Telling.{codeOf, refusalOf}
 use Rattle.panel_told.specs.Answers.{fileGiven}
+use Rattle.panel_asked.specs.declared.File.{File}
+use Rattle.panel_asked.specs.Asking.{outcome}
+use Rattle.panel_asked.specs.Filing.{bufferFor, Filed}
 
 -- `wanted` was to be written into the output; 24 means that `buffer` was short
 pub record Exported (buffer : ℕ) (before : List ℕ) (wanted : Result (List ℕ)) (after : List ℕ) (r : ℕ) (refusal : List ℕ) : Type 0 where
@@ -33,16 +32,6 @@ pub record Exported (buffer : ℕ) (before : List ℕ) (wanted : Result (List �
   pub wrote : Wrote before wanted after written
   pub count : r ≡ codeOf (fileGiven written)
   pub place : refusal ≡ refusalOf buffer (fileGiven written)
-
--- the drawing that goes with an answer, or its refusal
-abbrev pub outcome : Answer → Plan → Result Plan
-outcome Accepted q = good q
-outcome (Answer.Refused r p) q = refused r p
-
--- 24 of a list of calls is of the answers, 24 behind an accepted list is of the output
-abbrev pub bufferFor : Answer → ℕ
-bufferFor Accepted = outputBuffer
-bufferFor (Answer.Refused r p) = answersBuffer
 
 -- a list of calls was run, and the drawing file of its drawing was to be written
 pub record CallsExported (n : ℕ) (ws saidBefore saidAfter before after : List ℕ) (r : ℕ) (refusal : List ℕ) : Type 0 where
@@ -78,13 +67,9 @@ drew {n} {ws} {before} {r = r} t h = go-low (ltb n 3) refl
 pub came-ran : {n : ℕ} {ws before after : List ℕ} {r : Done} → Ran n ws before after r → r .answer ≡ Accepted → Came (r .drawing)
 came-ran {n} {ws} t h = let d = drew t h in record { plan = drawn n (callsIn ws); reached = d .0; is = d .1 }
 
--- the two ways a list of calls ends
-pub turned-away : {n : ℕ} {ws saidBefore saidAfter before refusal : List ℕ} {done : Done} {r : ℕ} (f : Refusal) (p : ℕ) → Ran n ws saidBefore saidAfter done → done .answer ≡ Answer.Refused f p →
-    r ≡ 0 → refusal ≡ refusalWords answersBuffer f p → CallsExported n ws saidBefore saidAfter before before r refusal
-turned-away {done = done} f p t h c g =
-    record { done = done; ran = t; written = record { written = Refused f p; wrote = rw h (turned _ f p); count = c; place = rw h g } }
-
-pub went-through : {n : ℕ} {ws saidBefore saidAfter before after refusal : List ℕ} {done : Done} {w : Written} {r : ℕ} → Ran n ws saidBefore saidAfter done → done .answer ≡ Accepted →
-    Wrote before (writeDrawing (drawn n (callsIn ws))) after w → r ≡ codeOf (fileGiven w) → refusal ≡ refusalOf outputBuffer (fileGiven w) → CallsExported n ws saidBefore saidAfter before after r refusal
-went-through {done = done} {w = w} t h k c g =
-    record { done = done; ran = t; written = record { written = w; wrote = rw h k; count = c; place = rw h g } }
+-- the answers of a list of calls, and the file that goes with its answer
+pub filed : {n : ℕ} {ws saidBefore saidAfter before after refusal : List ℕ} {done : Done} {f : File} {r : ℕ} → Ran n ws saidBefore saidAfter done →
+    Filed (done .answer) (done .drawing .table) (done .drawing .counts) before after f → r ≡ codeOf (fileGiven (f .written)) → refusal ≡ refusalOf (f .buffer) (fileGiven (f .written)) →
+    CallsExported n ws saidBefore saidAfter before after r refusal
+filed {done = done} {f = f} t k c g =
+    record { done = done; ran = t; written = record { written = f .written; wrote = k .wrote _ (drew t); count = c; place = rw (← k .buffer) g } }

@@ -1,3 +1,2 @@
 pub mod Exported
-pub mod Asking
-pub mod Questions
+pub mod Asked

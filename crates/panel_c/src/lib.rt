@@ -1,26 +1,15 @@
 // What C and Rust call: numbers, slices and arrays only, and no `requires`.
 // Each call puts three words of a refusal into `refusal`: its number, its place, and at 24 which buffer was short, 1 the output or 2 the answers; all 0 for none.
-use answers::CutSeen;
-use answers::LineSeen;
-use answers::Moved;
-use answers::PointSeen;
-use answers::Written;
 use panel_told::ANSWERS;
 use panel_told::NO_BUFFER;
 use panel_told::OUTPUT;
-use rules::Answer;
-use store_links::Counts;
 use store_tables::END;
-use store_tables::Table;
 use tool::Tool;
-ghost use mathlib.Core.Path.{_≡_};
-ghost use Rattle.rules.specs.declared.Answer.the-variants.{Accepted};
 ghost use Rattle.rules.specs.DrawingFile.{drawFile, orderBack};
-ghost use Rattle.drawing.specs.View.{Came};
 ghost use Rattle.panel_told.specs.Telling.{outputBuffer};
 ghost use Rattle.panel_c.specs.Exported.{Exported, CallsExported};
-ghost use Rattle.panel_c.specs.Asking.{Finds, OrderAsked, CallsAsked};
-ghost use Rattle.panel_c.specs.Questions.{moveAsked, pointAsked, lineAsked, cutAsked};
+ghost use Rattle.panel_c.specs.Asked.{OrderAsked, CallsAsked};
+ghost use Rattle.panel_asked.specs.Questions.{moveAsked, pointAsked, lineAsked, cutAsked};
 
 // Draws an order file: the number of bytes written.
 #[no_mangle]
@@ -56,27 +45,9 @@ pub extern "C" fn panel_calls(
     let mut table = [0u16; END];
     let made = calls::run_in(&mut table, n, calls, answers);
     let answer = made.answer;
-    match answer {
-        Answer::Refused(r, p) => panel_told::tell_written(Written::Refused(r, p), ANSWERS, refusal),
-        Answer::Accepted => {
-            let written = panel::write_file(out, &table, made.counts);
-            panel_told::tell_written(written, OUTPUT, refusal)
-        }
-    }
-}
-
-// A move of the drawing in the lent table, where it goes with an accepting answer, or that answer's refusal.
-fn move_from(answer: Answer, table: &Table, c: Counts, t: Tool, number: usize) -> Moved
-    requires { ⌜ (answer ≡ Accepted → Came (record { counts = c; table = now table })) ⌝ }
-    ensures { λ r. ⌜ Finds (moveAsked t number) answer (now (table .entry)) c r ⌝ }
-{
-    match answer {
-        Answer::Refused(r, p) => Moved::Refused(r, p),
-        Answer::Accepted => {
-            let x = store_looking::settled(table, c.k);
-            cutter::look_move(table, &x, c, t, number)
-        }
-    }
+    let file = panel_asked::file_from(answer, out, &table, made.counts);
+    let written = file.written;
+    panel_told::tell_written(written, file.buffer, refusal)
 }
 
 // Move `number`, from 0, of an order file's drawing.
@@ -100,7 +71,7 @@ pub extern "C" fn panel_move(
         clearance,
     };
     let answer = read.answer;
-    let moved = move_from(answer, &table, read.counts, t, number);
+    let moved = panel_asked::move_from(answer, &table, read.counts, t, number);
     panel_told::tell_move(moved, NO_BUFFER, at, refusal)
 }
 
@@ -129,22 +100,8 @@ pub extern "C" fn panel_calls_move(
         clearance,
     };
     let answer = made.answer;
-    let moved = move_from(answer, &table, made.counts, t, number);
+    let moved = panel_asked::move_from(answer, &table, made.counts, t, number);
     panel_told::tell_move(moved, ANSWERS, at, refusal)
-}
-
-// A point's place, in the same manner.
-fn point_from(answer: Answer, table: &Table, c: Counts, p: usize) -> PointSeen
-    requires { ⌜ (answer ≡ Accepted → Came (record { counts = c; table = now table })) ⌝ }
-    ensures { λ r. ⌜ Finds (pointAsked p) answer (now (table .entry)) c r ⌝ }
-{
-    match answer {
-        Answer::Refused(r, p) => PointSeen::Refused(r, p),
-        Answer::Accepted => {
-            let x = store_looking::settled(table, c.k);
-            store_looking::look_point(table, &x, c, p)
-        }
-    }
 }
 
 // A point's place in an order file's drawing.
@@ -160,7 +117,7 @@ pub extern "C" fn panel_point(
     let mut table = [0u16; END];
     let read = read_orders::read_order(order, &mut table);
     let answer = read.answer;
-    let found = point_from(answer, &table, read.counts, point);
+    let found = panel_asked::point_from(answer, &table, read.counts, point);
     panel_told::tell_point(found, NO_BUFFER, seen, refusal)
 }
 
@@ -181,22 +138,8 @@ pub extern "C" fn panel_calls_point(
     let mut table = [0u16; END];
     let made = calls::run_in(&mut table, n, calls, answers);
     let answer = made.answer;
-    let found = point_from(answer, &table, made.counts, point);
+    let found = panel_asked::point_from(answer, &table, made.counts, point);
     panel_told::tell_point(found, ANSWERS, seen, refusal)
-}
-
-// A line, in the same manner.
-fn line_from(answer: Answer, table: &Table, c: Counts, e: usize) -> LineSeen
-    requires { ⌜ (answer ≡ Accepted → Came (record { counts = c; table = now table })) ⌝ }
-    ensures { λ r. ⌜ Finds (lineAsked e) answer (now (table .entry)) c r ⌝ }
-{
-    match answer {
-        Answer::Refused(r, p) => LineSeen::Refused(r, p),
-        Answer::Accepted => {
-            let x = store_looking::settled(table, c.k);
-            store_looking::look_line(table, &x, c, e)
-        }
-    }
 }
 
 // Line `line`, from 0, of an order file's drawing.
@@ -212,7 +155,7 @@ pub extern "C" fn panel_line(
     let mut table = [0u16; END];
     let read = read_orders::read_order(order, &mut table);
     let answer = read.answer;
-    let found = line_from(answer, &table, read.counts, line);
+    let found = panel_asked::line_from(answer, &table, read.counts, line);
     panel_told::tell_line(found, NO_BUFFER, seen, refusal)
 }
 
@@ -233,19 +176,8 @@ pub extern "C" fn panel_calls_line(
     let mut table = [0u16; END];
     let made = calls::run_in(&mut table, n, calls, answers);
     let answer = made.answer;
-    let found = line_from(answer, &table, made.counts, line);
+    let found = panel_asked::line_from(answer, &table, made.counts, line);
     panel_told::tell_line(found, ANSWERS, seen, refusal)
-}
-
-// A cut line that ends at a point, in the same manner.
-fn cut_from(answer: Answer, table: &Table, c: Counts, p: usize) -> CutSeen
-    requires { ⌜ (answer ≡ Accepted → Came (record { counts = c; table = now table })) ⌝ }
-    ensures { λ r. ⌜ Finds (cutAsked p) answer (now (table .entry)) c r ⌝ }
-{
-    match answer {
-        Answer::Refused(r, p) => CutSeen::Refused(r, p),
-        Answer::Accepted => store_looking::look_cut(table, c, p),
-    }
 }
 
 // A cut line of an order file's drawing that ends at a point, or that there is none.
@@ -261,7 +193,7 @@ pub extern "C" fn panel_cut_line(
     let mut table = [0u16; END];
     let read = read_orders::read_order(order, &mut table);
     let answer = read.answer;
-    let found = cut_from(answer, &table, read.counts, point);
+    let found = panel_asked::cut_from(answer, &table, read.counts, point);
     panel_told::tell_cut(found, NO_BUFFER, seen, refusal)
 }
 
@@ -282,6 +214,6 @@ pub extern "C" fn panel_calls_cut_line(
     let mut table = [0u16; END];
     let made = calls::run_in(&mut table, n, calls, answers);
     let answer = made.answer;
-    let found = cut_from(answer, &table, made.counts, point);
+    let found = panel_asked::cut_from(answer, &table, made.counts, point);
     panel_told::tell_cut(found, ANSWERS, seen, refusal)
 }

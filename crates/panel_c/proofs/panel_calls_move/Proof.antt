@@ -1,7 +1,7 @@
 -- `panel_calls_move` meets its contract.
 use mathlib.Core.Path.{refl}
 use Rattle.panel_c.specs.Exported.{came-ran}
-use Rattle.panel_c.specs.Asking.{of-calls}
+use Rattle.panel_c.specs.Asked.{of-calls}
 use borrow.Author.Needs.{needs}
 use Rattle.panel_c.proofs.panel_calls_move.Statement.{statement}
 use Rattle.panel_c.proofs.panel_calls_move.Tie as tie

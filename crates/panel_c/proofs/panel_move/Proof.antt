@@ -1,7 +1,7 @@
 -- `panel_move` meets its contract.
 use mathlib.Core.Path.{refl}
 use borrow.Author.Needs.{needs}
-use Rattle.panel_c.specs.Asking.{came-read, of-order}
+use Rattle.panel_c.specs.Asked.{came-read, of-order}
 use Rattle.panel_c.proofs.panel_move.Statement.{statement}
 use Rattle.panel_c.proofs.panel_move.Tie as tie
 

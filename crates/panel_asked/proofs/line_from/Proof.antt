@@ -1,10 +1,10 @@
--- `point_from` meets its contract.
+-- `line_from` meets its contract.
 use mathlib.Core.Path.{refl}
 use Rattle.drawing.specs.View.{Came, stored}
 use Rattle.store_looking.specs.Places.{settleable}
 use borrow.Author.Needs.{needs}
-use Rattle.panel_c.proofs.point_from.Statement.{statement}
-use Rattle.panel_c.proofs.point_from.Tie as tie
+use Rattle.panel_asked.proofs.line_from.Statement.{statement}
+use Rattle.panel_asked.proofs.line_from.Tie as tie
 
 enum-known-answer : tie.Need-enum-known-answer
 enum-known-answer c = search needs
@@ -19,8 +19,8 @@ came d = d .before .before .pre (d .enum-told .given .1)
 settled-requires : tie.Need-settled-requires
 settled-requires c κs = settleable (came c .is)
 
-look-point-requires : tie.Need-look-point-requires
-look-point-requires c κs =
+look-line-requires : tie.Need-look-line-requires
+look-line-requires c κs =
     let s = c .before in
     (stored (came (s .before)), s .settled .ensures)
 
@@ -30,9 +30,9 @@ returns c = λ q is. rw (c .before .answer .given .1) refl
 returns-2 : tie.Need-returns-2
 returns-2 c =
     let e = c .before .before .before .enum-told .given .1 in
-    λ q is. rw e (c .look-point .ensures q (is e))
+    λ q is. rw e (c .look-line .ensures q (is e))
 
-pub point-from-spec : {M : Type 1} → statement M
-point-from-spec =
+pub line-from-spec : {M : Type 1} → statement M
+line-from-spec =
     tie.close
-    (tie.spec enum-known-answer enum-told settled-requires look-point-requires returns returns-2)
+    (tie.spec enum-known-answer enum-told settled-requires look-line-requires returns returns-2)

@@ -1,18 +1,15 @@
--- A question to the drawing of an order file, or to the drawing that a list of calls leaves, and what C is told: one statement for moves and look-ups.
+-- What C is told of a question to the drawing of an order file, or to the drawing that a list of calls leaves: one statement for moves and look-ups.
 use Prim.Native.Nat.{ℕ}
 use mathlib.Core.Path.{_≡_, refl, subst}
 use mathlib.Core.List.{List}
 use native.Mathlib.Omega.{arith}
 use Rattle.rules.specs.declared.Answer.{Answer}
 use Rattle.rules.specs.declared.Answer.the-variants.{Accepted}
-use Rattle.rules.specs.declared.Refusal.{Refusal}
 use Rattle.rules.specs.Refusals.{Result, good, refused}
 use Rattle.rules.specs.Points.{Drawing as Plan, opening}
 use Rattle.rules.specs.Calls.{drawn}
 use Rattle.rules.specs.OrderFile.{readOrder}
 use Rattle.store_links.specs.declared.Added.{Added}
-use Rattle.store_links.specs.declared.Counts.{Counts}
-use Rattle.store_laws.specs.Adding.{Holds}
 use Rattle.store_tables.specs.Tables.{arraysIn}
 use Rattle.drawing.specs.declared.Done.{Done}
 use Rattle.drawing.specs.View.{Came}
@@ -21,19 +18,9 @@ use Rattle.calls.specs.Lists.{callsIn}
 use Rattle.calls.specs.Ran.{Ran}
 use Rattle.read_orders.specs.Points.{Gave}
 use Rattle.panel.specs.Reading.{given}
-use Rattle.panel_told.specs.Telling.{Given, Tells, noBuffer, answersBuffer}
-use Rattle.panel_c.specs.Exported.{outcome, drew}
-
--- a question: which answer is right for a drawing, which one says that there is no drawing, and what C is told of an answer
-pub record Question (S A : Type 0) : Type 1 where
-  pub right : Plan → S → Type 0
-  pub turned : Refusal → ℕ → S
-  pub given : S → Result (Given A)
-
--- s is right for the drawing that o gives, or is o's refusal
-abbrev pub IsAnswer : {S A : Type 0} → Question S A → Result Plan → S → Type 0
-IsAnswer ask (good q) s = ask .right q s
-IsAnswer ask (refused r p) s = s ≡ ask .turned r p
+use Rattle.panel_told.specs.Telling.{Tells, noBuffer, answersBuffer}
+use Rattle.panel_asked.specs.Asking.{outcome, Question, IsAnswer, Finds}
+use Rattle.panel_c.specs.Exported.{drew}
 
 -- C was told the right answer; the call could find `buffer` too short
 pub record Asked {S A : Type 0} (ask : Question S A) (buffer : ℕ) (o : Result Plan) (before after : List A) (r : ℕ) (refusal : List ℕ) : Type 0 where
@@ -50,10 +37,6 @@ pub record CallsAsked {S A : Type 0} (ask : Question S A) (n : ℕ) (ws saidBefo
   pub done : Done
   pub ran : Ran n ws saidBefore saidAfter done
   pub asked : Asked ask answersBuffer (outcome (done .answer) (drawn n (callsIn ws))) before after r refusal
-
--- s answers the question to the drawing in a table, where that goes with an accepting answer, or is that answer's refusal
-abbrev pub Finds : {S A : Type 0} → Question S A → Answer → List ℕ → Counts → S → Type 0
-Finds ask a t c s = (q : Plan) → (a ≡ Accepted → Holds q (arraysIn t) c) → IsAnswer ask (outcome a q) s
 
 -- What was read from an accepted order file came so.
 pub came-read : (f t : List ℕ) (v : Added) → Gave (readOrder f) (arraysIn t) v → v .answer ≡ Accepted → Came (record { counts = v .counts; table = t })

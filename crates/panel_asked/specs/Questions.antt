@@ -17,7 +17,7 @@ use Rattle.answers.specs.declared.Moved.{Moved}
 use Rattle.answers.specs.declared.Moved.the-variants as Moved
 use Rattle.cutter.specs.Seen.{MoveSeen}
 use Rattle.panel_told.specs.Answers.{moveGiven, pointGiven, lineGiven, cutGiven}
-use Rattle.panel_c.specs.Asking.{Question}
+use Rattle.panel_asked.specs.Asking.{Question}
 
 -- "Moves are numbered from 0 through the cut lines in line order, and given one at a time by number"
 abbrev pub moveAsked : Tool → ℕ → Question Moved Float

@@ -2,8 +2,8 @@
 use mathlib.Core.Path.{refl}
 use Rattle.drawing.specs.View.{Came, stored}
 use borrow.Author.Needs.{needs}
-use Rattle.panel_c.proofs.cut_from.Statement.{statement}
-use Rattle.panel_c.proofs.cut_from.Tie as tie
+use Rattle.panel_asked.proofs.cut_from.Statement.{statement}
+use Rattle.panel_asked.proofs.cut_from.Tie as tie
 
 enum-known-answer : tie.Need-enum-known-answer
 enum-known-answer c = search needs

@@ -1,0 +1,3 @@
+pub mod Asking
+pub mod Filing
+pub mod Questions
