@@ -15,9 +15,10 @@ use Rattle.store_links.specs.declared.Counts.{Counts}
 use Rattle.store_links.specs.Arrays.{Arrays}
 use Rattle.store_links.specs.Storing.{judged}
 use Rattle.store_laws.specs.Adding.{Holds, called}
-use Rattle.calls.specs.Lists.{callsIn, wordsOf, answerWords, numberIn, placeIn, withAnswer}
-use Rattle.calls.specs.Turns.{endOf, Callable, Made, Begun, Ended}
-use Rattle.calls.specs.Rests.{no-calls, rest-calls}
+use Rattle.calls_words.specs.Lists.{callsIn, endOf, numberIn, placeIn, withAnswer}
+use Rattle.calls_words.specs.Rests.{no-calls, rest-calls}
+use Rattle.calls.specs.Answers.{answerWords, wordsOf}
+use Rattle.calls.specs.Turns.{Callable, Made, Begun, Ended}
 
 -- the calls up to index `at` of the words are made, and the first `told` words of the buffer are their answers
 pub record Going (n : ℕ) (ws before : List ℕ) (a : Arrays) (c : Counts) (at told : ℕ) (out : List ℕ) : Type 0 where

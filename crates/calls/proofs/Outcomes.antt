@@ -20,7 +20,7 @@ use Rattle.store_laws.specs.Opened.{sized-open, stores-open}
 use Rattle.drawing.specs.Opens.{blank}
 use Rattle.store_points.specs.Zeros.{zeros}
 use Rattle.store_tables.specs.Tables.{arraysIn}
-use Rattle.calls.specs.Lists.{callsIn}
+use Rattle.calls_words.specs.Lists.{callsIn}
 use Rattle.calls.specs.Turns.{Begun, Ended, Runs}
 use Rattle.calls.specs.Ran.{doneIn, Refuses, Ran}
 

@@ -1,5 +1,4 @@
-pub mod Lists
+pub mod Answers
 pub mod Turns
-pub mod Rests
 pub mod Places
 pub mod Ran

@@ -13,7 +13,7 @@ use Rattle.store_links.specs.Arrays.{Arrays, atPoint}
 use Rattle.store_links.specs.Judging.{pointIn, entriesPass, linksPass, runPasses, passes}
 use Rattle.store_links.specs.Placing.{allReachFrom, innerCount}
 use Rattle.store_links.specs.Storing.{judged, spotFor}
-use Rattle.calls.specs.Lists.{placeIn}
+use Rattle.calls_words.specs.Lists.{placeIn}
 
 -- where a test refuses, it does so at a place up to `most`
 record Within (most : ℕ) (r : Result (Unit {0})) : Type 0 where

@@ -10,7 +10,8 @@ use Rattle.store_links.specs.declared.Added.{Added}
 use Rattle.drawing.specs.declared.Done.{Done}
 use Rattle.drawing.specs.Opens.{blank}
 use Rattle.drawing.specs.View.{Is, Came}
-use Rattle.calls.specs.Lists.{callsIn, wordsOf}
+use Rattle.calls_words.specs.Lists.{callsIn}
+use Rattle.calls.specs.Answers.{wordsOf}
 
 -- what was answered, with the drawing of the numbers and the table
 abbrev pub doneIn : Added → List ℕ → Done

@@ -1,8 +1,8 @@
 -- One turn of the running of a list of calls, and all of them.
-use Prim.Native.Nat.{ℕ, _+_, _*_, _<_, _≤_, min}
+use Prim.Native.Nat.{ℕ, _+_, _*_, _<_, _≤_}
 use mathlib.Core.Path.{_≡_}
 use mathlib.Core.List.{List, _++_}
-use lib.ListN.{length, getD, drop}
+use lib.ListN.{length, drop}
 use Rattle.rules.specs.Refusals.{answer}
 use Rattle.rules.specs.Points.{Drawing as Plan, opening}
 use Rattle.rules.specs.Calls.{drawn, said}
@@ -10,11 +10,8 @@ use Rattle.store_links.specs.declared.Counts.{Counts}
 use Rattle.store_links.specs.Arrays.{Arrays}
 use Rattle.store_links.specs.Storing.{judged, arraysAfter, countsAfter}
 use Rattle.store_laws.specs.Adding.{Holds}
-use Rattle.calls.specs.Lists.{callsIn, wordsOf, withAnswer}
-
--- where the call whose count stands at index `at` ends
-abbrev pub endOf : List ℕ → ℕ → ℕ
-endOf ws at = min (at + 1 + getD ws at 0) (length ws)
+use Rattle.calls_words.specs.Lists.{callsIn, withAnswer}
+use Rattle.calls.specs.Answers.{wordsOf}
 
 -- a call can be made: the arrays hold a drawing, the entries were counted by 16 bits, and there is room for the answer at index `at`
 pub record Callable (a : Arrays) (c : Counts) (es out : List ℕ) (at : ℕ) : Type 0 where

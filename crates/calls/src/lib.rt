@@ -10,66 +10,11 @@ use store_links::Counts;
 use store_tables::END;
 use store_tables::Table;
 ghost use mathlib.Core.Path.{_≡_};
-ghost use Prim.Native.Nat.{_+_, _<_};
-ghost use lib.ListN.{length, set};
 ghost use Rattle.store_tables.specs.Tables.{arraysIn};
 ghost use Rattle.store_links.specs.Opening.{noCounts};
 ghost use Rattle.store_points.specs.Zeros.{zeros};
-ghost use Rattle.calls.specs.Lists.{callsIn, placeIn, withAnswer};
-ghost use Rattle.calls.specs.Turns.{endOf, Callable, Made, Begun, Ended, Runs};
+ghost use Rattle.calls.specs.Turns.{Callable, Made, Begun, Ended, Runs};
 ghost use Rattle.calls.specs.Ran.{doneIn, Ran};
-
-// Where the call whose count stands at `at` ends: behind its entries, or where the words end.
-fn end_of(calls: &[u16], at: usize) -> usize
-    requires { ⌜ at < length (now calls) ⌝ }
-    ensures { λ r. ⌜ r ≡ endOf (now (calls .entry)) at ⌝ }
-{
-    let from = at + 1;
-    let left = calls.len() - from;
-    let count = words::broad(calls[at]);
-    if left < count {
-        from + left
-    } else {
-        from + count
-    }
-}
-
-// How many calls the words hold.
-fn count_calls(calls: &[u16]) -> usize
-    ensures { λ r. ⌜ r ≡ length (callsIn (now (calls .entry))) ⌝ }
-{
-    let mut found = 0;
-    let mut at = 0;
-    while at < calls.len() {
-        found += 1;
-        at = end_of(calls, at);
-    }
-    found
-}
-
-// Two words of the buffer.
-fn put_two(out: &mut [u16], at: usize, a: u16, b: u16)
-    requires { ⌜ at + 1 < length (now out) ⌝ }
-    ensures { λ _. ⌜ now (out .exit) ≡ set (set (now (out .entry)) at a) (at + 1) b ⌝ }
-{
-    out[at] = a;
-    out[at + 1] = b;
-}
-
-// An answer's two words: its number, and its place.
-fn put_answer(out: &mut [u16], at: usize, a: Answer)
-    requires { ⌜ (at + 1 < length (now out)) × (placeIn a < 65536) ⌝ }
-    ensures { λ _. ⌜ now (out .exit) ≡ withAnswer (now (out .entry)) at a ⌝ }
-{
-    match a {
-        Answer::Accepted => put_two(out, at, 0, 0),
-        Answer::Refused(r, p) => {
-            let number = rules::refusal_number(r);
-            let place = words::narrow(p);
-            put_two(out, at, number, place)
-        }
-    }
-}
 
 // One call on the lent table, with its answer at `at` of the buffer; gives the numbers after it.
 fn one_call(table: &mut Table, c: Counts, e: &[u16], answers: &mut [u16], at: usize) -> Counts
@@ -79,7 +24,7 @@ fn one_call(table: &mut Table, c: Counts, e: &[u16], answers: &mut [u16], at: us
     let added = store_adding::add(table, c, e);
     let answer = added.answer;
     let numbers = added.counts;
-    put_answer(answers, at, answer);
+    calls_words::put_answer(answers, at, answer);
     numbers
 }
 
@@ -93,7 +38,7 @@ fn all_calls(table: &mut Table, opened: Counts, calls: &[u16], answers: &mut [u1
     let mut at = 0;
     while at < calls.len() {
         let from = at + 1;
-        let end = end_of(calls, at);
+        let end = calls_words::end_of(calls, at);
         let e = &calls[from..end];
         counts = one_call(table, counts, e, answers, told);
         told += 2;
@@ -133,7 +78,7 @@ pub fn run_in(table: &mut Table, n: usize, calls: &[u16], answers: &mut [u16]) -
     if MOST_POINTS < n {
         return refuse(Refusal::OutOfRange);
     }
-    let needed = 2 * count_calls(calls);
+    let needed = 2 * calls_words::count_calls(calls);
     if answers.len() < needed {
         return refuse(Refusal::OutputShort);
     }

@@ -14,7 +14,7 @@ use Rattle.store_tables.specs.Tables.{arraysIn}
 use Rattle.drawing.specs.declared.Done.{Done}
 use Rattle.drawing.specs.View.{Came}
 use Rattle.drawing.specs.Opens.{came-given}
-use Rattle.calls.specs.Lists.{callsIn}
+use Rattle.calls_words.specs.Lists.{callsIn}
 use Rattle.calls.specs.Ran.{Ran}
 use Rattle.read_orders.specs.Points.{Gave}
 use Rattle.panel.specs.Reading.{given}

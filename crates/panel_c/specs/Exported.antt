@@ -16,7 +16,7 @@ use Rattle.exchange.specs.Built.{Reached}
 use Rattle.exchange.specs.Reaching.{reached-drawn}
 use Rattle.drawing.specs.declared.Done.{Done}
 use Rattle.drawing.specs.View.{Is, Came}
-use Rattle.calls.specs.Lists.{callsIn}
+use Rattle.calls_words.specs.Lists.{callsIn}
 use Rattle.calls.specs.Ran.{Ran}
 use Rattle.answers.specs.declared.Written.{Written}
 use Rattle.write_files.specs.Outputs.{Wrote}

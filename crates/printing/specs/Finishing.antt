@@ -16,7 +16,7 @@ use Rattle.answers.specs.declared.Written.{Written}
 use Rattle.answers.specs.declared.Written.the-variants.{Bytes, Refused}
 use Rattle.answers.specs.Told.{toldWritten}
 use Rattle.write_files.specs.Outputs.{Wrote}
-use Rattle.printing.specs.Putting.{Printed}
+use Rattle.printing_line.specs.Putting.{Printed}
 
 -- ---- what the page holds
 

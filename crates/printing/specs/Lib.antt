@@ -1,4 +1,2 @@
-pub mod Putting
-pub mod Numbers
 pub mod Finishing
 pub mod Began

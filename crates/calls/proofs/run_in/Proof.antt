@@ -1,6 +1,6 @@
 -- `calls::run_in` meets its contract: each return is one of the outcomes.
 use native.Mathlib.Omega.{arith}
-use Rattle.calls.specs.Rests.{calls-most}
+use Rattle.calls_words.specs.Rests.{calls-most}
 use Rattle.calls.proofs.Outcomes.{out-of-range, too-short, accepted}
 use borrow.Author.Needs.{needs}
 use Rattle.calls.proofs.run_in.Statement.{statement}

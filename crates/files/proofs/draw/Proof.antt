@@ -3,7 +3,7 @@ use mathlib.Core.Path.{ap, sym, _∙_}
 use native.Mathlib.Omega.{arith}
 use lib.ListN.{length}
 use borrow.Author.Needs.{needs}
-use Rattle.printing.specs.Putting.{first-printed}
+use Rattle.printing_line.specs.Putting.{first-printed}
 use Rattle.printing.specs.Began.{began-itself}
 use Rattle.files.proofs.draw.Statement.{statement}
 use Rattle.files.proofs.draw.Tie as tie

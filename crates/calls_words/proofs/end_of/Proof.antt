@@ -1,8 +1,8 @@
--- `calls::end_of`: the call ends where the words end, or behind its entries.
+-- `calls_words::end_of`: the call ends where the words end, or behind its entries.
 use native.Mathlib.Omega.{arith}
 use borrow.Author.Needs.{needs}
-use Rattle.calls.proofs.end_of.Statement.{statement}
-use Rattle.calls.proofs.end_of.Tie as tie
+use Rattle.calls_words.proofs.end_of.Statement.{statement}
+use Rattle.calls_words.proofs.end_of.Tie as tie
 
 add-from : tie.Need-add-from
 add-from c = search needs

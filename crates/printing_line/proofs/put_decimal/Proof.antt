@@ -1,9 +1,9 @@
--- `printing::put_decimal` meets its contract: the kit's digits are those of the rules.
+-- `printing_line::put_decimal` meets its contract: the kit's digits are those of the rules.
 use native.Mathlib.Omega.{arith}
 use borrow.Author.Needs.{needs}
-use Rattle.printing.specs.Numbers.{few-digits, decimal-is}
-use Rattle.printing.proofs.put_decimal.Statement.{statement}
-use Rattle.printing.proofs.put_decimal.Tie as tie
+use Rattle.printing_line.specs.Numbers.{few-digits, decimal-is}
+use Rattle.printing_line.proofs.put_decimal.Statement.{statement}
+use Rattle.printing_line.proofs.put_decimal.Tie as tie
 
 decimal-requires : tie.Need-decimal-requires
 decimal-requires c κs = search needs

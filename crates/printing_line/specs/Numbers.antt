@@ -11,7 +11,7 @@ use Rattle.io.specs.Digits.{glyph, Fewest}
 use Rattle.io.specs.Digits.{digits as kitDigits}
 use Rattle.rules.specs.Basics.{snoc}
 use Rattle.rules.specs.Decimal.{digit, digits, digits-one, digits-more}
-use Rattle.printing.specs.Putting.{mostDigits}
+use Rattle.printing_line.specs.Putting.{mostDigits}
 
 -- the last digit
 glyph-is : (v : ℕ) → v < 10 → glyph v ≡ digit v

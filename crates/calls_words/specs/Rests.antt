@@ -7,8 +7,7 @@ use native.Mathlib.Nat.{zero-min, min-zero, suc-min-suc}
 use native.Mathlib.Numerals.{add-one}
 use lib.ListN.{length, getD, take, drop, length-drop}
 use lib.Seq.{drop-cons, drop-drop}
-use Rattle.calls.specs.Lists.{callsWithin, callsIn}
-use Rattle.calls.specs.Turns.{endOf}
+use Rattle.calls_words.specs.Lists.{callsWithin, callsIn, endOf}
 
 -- Past the end there is nothing to take and nothing to drop.
 take-min : (c : ℕ) (l : List ℕ) → take (min c (length l)) l ≡ take c l

@@ -1,13 +1,13 @@
--- `calls::count_calls` meets its contract: the calls found so far and those from `at` on are all the calls.
+-- `calls_words::count_calls` meets its contract: the calls found so far and those from `at` on are all the calls.
 use Prim.Native.Nat.{_+_, _-_, _<_, _≤_}
 use mathlib.Core.Path.{_≡_, ap}
 use native.Mathlib.Omega.{arith}
 use borrow.Author.Needs.{needs}
 use lib.ListN.{length, drop}
-use Rattle.calls.specs.Lists.{callsIn}
-use Rattle.calls.specs.Rests.{no-calls, end-low, end-high, rest-calls}
-use Rattle.calls.proofs.count_calls.Statement.{statement}
-use Rattle.calls.proofs.count_calls.Tie as tie
+use Rattle.calls_words.specs.Lists.{callsIn}
+use Rattle.calls_words.specs.Rests.{no-calls, end-low, end-high, rest-calls}
+use Rattle.calls_words.proofs.count_calls.Statement.{statement}
+use Rattle.calls_words.proofs.count_calls.Tie as tie
 
 abbrev Inv-loop : tie.InvT-loop
 Inv-loop calls found₀ at₀ found at = (at ≤ length calls) × (found ≤ at) × (found + length (callsIn (drop at calls)) ≡ length (callsIn calls))

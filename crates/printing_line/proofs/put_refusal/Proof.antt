@@ -1,12 +1,12 @@
--- `printing::put_refusal` meets its contract: the five parts of the line, one behind the other.
+-- `printing_line::put_refusal` meets its contract: the five parts of the line, one behind the other.
 use mathlib.Core.Path.{ap}
 use native.Mathlib.Omega.{arith}
 use borrow.Author.Needs.{needs}
 use Rattle.rules.specs.Decimal.{digits}
 use Rattle.words.specs.Writing.{length-stored}
-use Rattle.printing.specs.Putting.{put-as, put-both, put-start}
-use Rattle.printing.proofs.put_refusal.Statement.{statement}
-use Rattle.printing.proofs.put_refusal.Tie as tie
+use Rattle.printing_line.specs.Putting.{put-as, put-both, put-start}
+use Rattle.printing_line.proofs.put_refusal.Statement.{statement}
+use Rattle.printing_line.proofs.put_refusal.Tie as tie
 
 refusal-number-requires : tie.Need-refusal-number-requires
 refusal-number-requires c κs = search needs

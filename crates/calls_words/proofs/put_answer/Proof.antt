@@ -1,8 +1,8 @@
--- `calls::put_answer` meets its contract, answer by answer.
+-- `calls_words::put_answer` meets its contract, answer by answer.
 use borrow.Author.Needs.{needs}
-use Rattle.calls.proofs.Telling.{refusal-told}
-use Rattle.calls.proofs.put_answer.Statement.{statement}
-use Rattle.calls.proofs.put_answer.Tie as tie
+use Rattle.calls_words.proofs.Telling.{refusal-told}
+use Rattle.calls_words.proofs.put_answer.Statement.{statement}
+use Rattle.calls_words.proofs.put_answer.Tie as tie
 
 enum-told : tie.Need-enum-told
 enum-told c = search needs

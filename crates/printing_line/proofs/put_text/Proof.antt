@@ -1,13 +1,13 @@
--- `printing::put_text` meets its contract: after i turns the first i bytes of the text stand in the page.
+-- `printing_line::put_text` meets its contract: after i turns the first i bytes of the text stand in the page.
 use Prim.Native.Nat.{_-_, _≤_}
 use mathlib.Core.Path.{_≡_, refl}
 use native.Mathlib.Omega.{arith}
 use lib.ListN.{length, take}
 use borrow.Author.Needs.{needs}
 use Rattle.words.specs.Writing.{Stored, stored-none}
-use Rattle.printing.specs.Putting.{put-next, put-all}
-use Rattle.printing.proofs.put_text.Statement.{statement}
-use Rattle.printing.proofs.put_text.Tie as tie
+use Rattle.printing_line.specs.Putting.{put-next, put-all}
+use Rattle.printing_line.proofs.put_text.Statement.{statement}
+use Rattle.printing_line.proofs.put_text.Tie as tie
 
 abbrev Inv-loop : tie.InvT-loop
 Inv-loop page₀ at text i₀ page i = (i ≤ length text) × (length page ≡ length page₀) × Stored page₀ at (take i text) page

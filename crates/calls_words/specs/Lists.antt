@@ -1,7 +1,7 @@
--- A list of calls as 16-bit words, and the answers as such words.
-use Prim.Native.Nat.{ℕ, zero, suc, _+_}
-use mathlib.Core.List.{List, [], _∷_, _++_}
-use lib.ListN.{length, take, drop, set}
+-- A list of calls as 16-bit words, and an answer as two such words.
+use Prim.Native.Nat.{ℕ, zero, suc, _+_, min}
+use mathlib.Core.List.{List, [], _∷_}
+use lib.ListN.{length, getD, take, drop, set}
 use Rattle.rules.specs.declared.Answer.{Answer}
 use Rattle.rules.specs.declared.Answer.the-variants.{Accepted, Refused}
 use Rattle.rules.specs.Refusals.{number}
@@ -16,6 +16,10 @@ callsWithin (suc f) (c ∷ ws) = take c ws ∷ callsWithin f (drop c ws)
 unfoldable pub callsIn : List ℕ → List (List ℕ)
 callsIn ws = callsWithin (length ws) ws
 
+-- where the call whose count stands at index `at` ends
+abbrev pub endOf : List ℕ → ℕ → ℕ
+endOf ws at = min (at + 1 + getD ws at 0) (length ws)
+
 -- An answer takes two words: document 01's number, 0 for accepted, and the place.
 abbrev pub numberIn : Answer → ℕ
 numberIn Accepted = 0
@@ -24,14 +28,6 @@ numberIn (Refused r p) = number r
 abbrev pub placeIn : Answer → ℕ
 placeIn Accepted = 0
 placeIn (Refused r p) = p
-
-abbrev pub answerWords : Answer → List ℕ
-answerWords a = numberIn a ∷ placeIn a ∷ []
-
--- those of every answer, in order
-abbrev pub wordsOf : List Answer → List ℕ
-wordsOf [] = []
-wordsOf (a ∷ rest) = answerWords a ++ wordsOf rest
 
 -- a list with an answer's words from index i on
 abbrev pub withAnswer : List ℕ → ℕ → Answer → List ℕ
