@@ -1,8 +1,10 @@
-// What the calls answer, where that is more than `Answer`. What each case is in document 01's numbers is in specs/Told.
+// A refusal's number, and what the calls answer where that is more than `Answer`. What each case is in document 01's numbers is in specs/Told.
 use rules::Line;
 use rules::Place;
 use rules::Refusal;
 use tool::Move;
+ghost use mathlib.Core.Path.{_≡_};
+ghost use Rattle.rules.specs.Refusals.{number};
 
 // A call that writes: the number of bytes written.
 pub enum Written {
@@ -36,4 +38,29 @@ pub enum Moved {
 pub enum Counted {
     Moves(usize),
     Refused(Refusal, usize),
+}
+
+// A refusal's number in document 01.
+pub fn refusal_number(r: Refusal) -> u16
+    ensures { λ v. ⌜ v ≡ number r ⌝ }
+{
+    match r {
+        Refusal::FileEnds => 1,
+        Refusal::WrongMark => 2,
+        Refusal::OutOfRange => 3,
+        Refusal::OtherStart => 4,
+        Refusal::FewEntries => 5,
+        Refusal::NotPlaced => 6,
+        Refusal::Covered => 7,
+        Refusal::NoRun => 8,
+        Refusal::NotWhole => 9,
+        Refusal::ExtraBytes => 10,
+        Refusal::OtherDrawing => 11,
+        Refusal::BadTool => 12,
+        Refusal::Finished => 21,
+        Refusal::Unfinished => 22,
+        Refusal::NoSuch => 23,
+        Refusal::OutputShort => 24,
+        Refusal::NoReach => 25,
+    }
 }

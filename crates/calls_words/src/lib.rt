@@ -50,7 +50,7 @@ pub fn put_answer(out: &mut [u16], at: usize, a: Answer)
     match a {
         Answer::Accepted => put_two(out, at, 0, 0),
         Answer::Refused(r, p) => {
-            let number = rules::refusal_number(r);
+            let number = answers::refusal_number(r);
             let place = words::narrow(p);
             put_two(out, at, number, place)
         }

@@ -53,7 +53,7 @@ fn print_at(v: Placed, t: Tool, number: usize)
         Moved::Made(m) => print_move(m),
         Moved::Refused(r, _) => {
             io::write_all(STDOUT_FILENO, b"refused ");
-            io::print_decimal(STDOUT_FILENO, rules::refusal_number(r) as u64);
+            io::print_decimal(STDOUT_FILENO, answers::refusal_number(r) as u64);
         }
     }
     io::write_all(STDOUT_FILENO, b"\n");

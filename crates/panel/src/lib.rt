@@ -5,7 +5,6 @@ use drawing::Drawing;
 use rules::Answer;
 use rules::LONGEST_DRAWING;
 use rules::Refusal;
-use rules::drawing_length;
 use store_links::Counts;
 use store_tables::END;
 use store_tables::Table;
@@ -94,7 +93,7 @@ fn compare_drawing(file: &[u8], table: &Table, c: Counts) -> Answer
     ensures { λ r. ⌜ ((d : Plan) → Whole d → Holds d (arraysIn (now (table .entry))) c → r ≡ answer (compareBytes 0 (now (file .entry)) (drawingBytes d))) ⌝ }
 {
     let mut drawn = [0u8; LONGEST_DRAWING];
-    let need = drawing_length(c.n);
+    let need = write_files::drawing_length(c.n);
     write_files::put_drawing(&mut drawn, table, c);
     read_comparing::compare(file, &drawn[..need])
 }

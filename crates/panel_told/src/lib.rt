@@ -24,7 +24,7 @@ pub const ANSWERS: u64 = 2;
 fn short_of(r: Refusal, buffer: u64) -> u64
     ensures { λ v. ⌜ v ≡ shortOf buffer r ⌝ }
 {
-    if rules::refusal_number(r) == rules::refusal_number(Refusal::OutputShort) {
+    if answers::refusal_number(r) == answers::refusal_number(Refusal::OutputShort) {
         buffer
     } else {
         0
@@ -35,7 +35,7 @@ fn short_of(r: Refusal, buffer: u64) -> u64
 fn refuse(r: Refusal, p: usize, buffer: u64, refusal: &mut [u64; 3])
     ensures { λ _. ⌜ now (refusal .exit) ≡ refusalWords buffer r p ⌝ }
 {
-    let number = rules::refusal_number(r) as u64;
+    let number = answers::refusal_number(r) as u64;
     let at = p as u64;
     let short = short_of(r, buffer);
     *refusal = [number, at, short];

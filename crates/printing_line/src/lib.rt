@@ -36,7 +36,7 @@ pub fn put_refusal(page: &mut [u8], r: Refusal, place: usize) -> usize
     requires { ⌜ lineRoom ≤ length (now page) ⌝ }
     ensures { λ k. ⌜ Printed (now (page .entry)) (refusalLine (number r) place) (now (page .exit)) k ⌝ }
 {
-    let n = rules::refusal_number(r) as u64;
+    let n = answers::refusal_number(r) as u64;
     let p = place as u64;
     let after_refused = put_text(page, 0, b"refused ");
     let after_number = put_decimal(page, after_refused, n);

@@ -1,10 +1,5 @@
 // The enums and structs that every crate shares, under document 01's names.
 // What they mean is in specs/: document 01 as definitions.
-ghost use mathlib.Core.Path.{_≡_};
-ghost use Prim.Native.Nat.{_≤_};
-ghost use Rattle.rules.specs.Points.{fewestPoints, mostPoints};
-ghost use Rattle.rules.specs.Refusals.{number};
-ghost use Rattle.rules.specs.DrawingFile.{drawingLength};
 
 // "Every record begins with a two-byte mark." Those of an order file, those of a drawing file, and the end of both.
 pub const ORDER_MARK: u16 = 0x4844;
@@ -101,37 +96,4 @@ pub struct Place {
 pub struct Entry {
     pub point: u16,
     pub cut: bool,
-}
-
-// A refusal's number in document 01.
-pub fn refusal_number(r: Refusal) -> u16
-    ensures { λ v. ⌜ v ≡ number r ⌝ }
-{
-    match r {
-        Refusal::FileEnds => 1,
-        Refusal::WrongMark => 2,
-        Refusal::OutOfRange => 3,
-        Refusal::OtherStart => 4,
-        Refusal::FewEntries => 5,
-        Refusal::NotPlaced => 6,
-        Refusal::Covered => 7,
-        Refusal::NoRun => 8,
-        Refusal::NotWhole => 9,
-        Refusal::ExtraBytes => 10,
-        Refusal::OtherDrawing => 11,
-        Refusal::BadTool => 12,
-        Refusal::Finished => 21,
-        Refusal::Unfinished => 22,
-        Refusal::NoSuch => 23,
-        Refusal::OutputShort => 24,
-        Refusal::NoReach => 25,
-    }
-}
-
-// How many bytes the drawing file of n points has: "42n - 60". For `panel`, whose n is in range.
-pub fn drawing_length(n: usize) -> usize
-    requires { ⌜ (fewestPoints ≤ n) × (n ≤ mostPoints) ⌝ }
-    ensures { λ r. ⌜ r ≡ drawingLength n ⌝ }
-{
-    42 * n - 60
 }

@@ -2,17 +2,26 @@
 // For `panel`: it asks for the table of a finished drawing, which the readers give.
 use answers::Written;
 use rules::Refusal;
-use rules::drawing_length;
 use store_links::Counts;
 use store_tables::Table;
+ghost use mathlib.Core.Path.{_≡_};
+ghost use Prim.Native.Nat.{_≤_};
 ghost use Rattle.rules.specs.Refusals.{good};
-ghost use Rattle.rules.specs.Points.{Drawing as Plan};
+ghost use Rattle.rules.specs.Points.{Drawing as Plan, fewestPoints, mostPoints};
 ghost use Rattle.rules.specs.OrderFile.{writeOrder};
-ghost use Rattle.rules.specs.DrawingFile.{drawingBytes};
+ghost use Rattle.rules.specs.DrawingFile.{drawingBytes, drawingLength};
 ghost use Rattle.store_tables.specs.Tables.{arraysIn};
 ghost use Rattle.store_laws.specs.Adding.{Holds};
 ghost use Rattle.exchange.specs.Built.{Whole};
 ghost use Rattle.write_files.specs.Outputs.{Wrote, Ended};
+
+// How many bytes the drawing file of n points has: "42n - 60".
+pub fn drawing_length(n: usize) -> usize
+    requires { ⌜ (fewestPoints ≤ n) × (n ≤ mostPoints) ⌝ }
+    ensures { λ r. ⌜ r ≡ drawingLength n ⌝ }
+{
+    42 * n - 60
+}
 
 // Writes the drawing file.
 pub fn put_drawing(out: &mut [u8], table: &Table, c: Counts) -> Written

@@ -1,4 +1,4 @@
--- `write_drawings::mark_of`: by cases on the flag.
+-- `mark_of`: by cases on the flag.
 use Rattle.write_records.proofs.mark_of.Statement.{statement}
 use Rattle.write_records.proofs.mark_of.Tie as tie
 

@@ -1,4 +1,4 @@
--- `write_orders::put_end` meets its contract: one number is pasted.
+-- `put_end` meets its contract: one number is pasted.
 use mathlib.Core.Path.{refl}
 use Rattle.words.specs.Writing.{pasted-nothing, pasted-then}
 use borrow.Author.Needs.{needs}

@@ -1,4 +1,4 @@
--- `write_orders::put_two` meets its contract: two stores are a pasting of two numbers.
+-- `put_two` meets its contract: two stores are a pasting of two numbers.
 use Prim.Native.Nat.{_+_}
 use mathlib.Core.Path.{_≡_, refl, _∙_, ap}
 use native.Mathlib.Omega.{arith}

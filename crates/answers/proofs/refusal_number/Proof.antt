@@ -1,7 +1,7 @@
--- `rules::refusal_number` meets its contract: in each arm the refusal is the constructor that the arm names.
+-- `refusal_number` meets its contract: in each arm the refusal is the constructor that the arm names.
 use borrow.Author.Needs.{needs}
-use Rattle.rules.proofs.refusal_number.Statement.{statement}
-use Rattle.rules.proofs.refusal_number.Tie as tie
+use Rattle.answers.proofs.refusal_number.Statement.{statement}
+use Rattle.answers.proofs.refusal_number.Tie as tie
 
 enum-told : tie.Need-enum-told
 enum-told c = search needs

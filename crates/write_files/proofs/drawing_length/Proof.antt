@@ -1,8 +1,8 @@
--- `rules::drawing_length` meets its contract.
+-- `drawing_length` meets its contract.
 use mathlib.Core.Path.{refl}
 use borrow.Author.Needs.{needs}
-use Rattle.rules.proofs.drawing_length.Statement.{statement}
-use Rattle.rules.proofs.drawing_length.Tie as tie
+use Rattle.write_files.proofs.drawing_length.Statement.{statement}
+use Rattle.write_files.proofs.drawing_length.Tie as tie
 
 mul-result : tie.Need-mul-result
 mul-result c = search needs
