@@ -12,7 +12,8 @@ use Rattle.rules.specs.declared.Refusal.the-variants.{NoSuch}
 use Rattle.store_links.specs.declared.Counts.{Counts}
 use Rattle.store_links.specs.Arrays.{Arrays}
 use Rattle.store_laws.specs.Adding.{Holds}
-use Rattle.store_settling.specs.Lines.{lineIn, line-is, ends}
+use Rattle.store_settling.specs.Lines.{line-is, ends}
+use Rattle.store_lines.specs.Lines.{lineIn}
 use Rattle.store_settling.specs.Placed.{Settled}
 use Rattle.store_settling.specs.Bends.{bendIn, Bendable}
 use Rattle.store_settling.specs.Bending.{Shows, shows-of, bendable-of, bend-right}

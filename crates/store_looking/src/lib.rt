@@ -65,7 +65,7 @@ pub fn look_line(table: &Table, x: &[u16; POINTS], c: Counts, e: usize) -> LineS
     if c.lines <= e {
         return LineSeen::Refused(Refusal::NoSuch, 0);
     }
-    let l = store_settling::line_in(table, e);
+    let l = store_lines::line_in(table, e);
     let to = words::broad(l.later);
     let from = words::broad(l.earlier);
     let b = l.bend;

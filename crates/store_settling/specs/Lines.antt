@@ -3,24 +3,13 @@ use Prim.Native.Nat.{ℕ, pred, _<_, _≤_}
 use mathlib.Core.Path.{_≡_, ap, _∙_}
 use native.Mathlib.Omega.{arith}
 use lib.ListN.{length, getD}
-use Rattle.rules.specs.declared.Line.{Line}
-use Rattle.rules.specs.Entries.{entryOf}
 use Rattle.rules.specs.Points.{Drawing, lineAt}
 use Rattle.promise.specs.Bounds.{Standing}
 use Rattle.store_links.specs.declared.Counts.{Counts}
 use Rattle.store_links.specs.Arrays.{Arrays, Stores}
 use Rattle.store_links.specs.Codes.{bendFrom, bend-back}
+use Rattle.store_lines.specs.Lines.{lineIn}
 use Rattle.store_settling.specs.Indexes.{indexed}
-
--- line e, read from the arrays
-abbrev pub lineIn : Arrays → ℕ → Line
-lineIn a e =
-    record {
-      later = getD (a .later) e 0;
-      earlier = entryOf (getD (a .words) e 0) .point;
-      bend = bendFrom (getD (a .bends) e 0);
-      cut = entryOf (getD (a .words) e 0) .cut;
-    }
 
 module _ {d : Drawing} (h : Standing d) (e : ℕ) (el : e < length (d .lines)) where
   -- It is the drawing's.

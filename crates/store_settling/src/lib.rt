@@ -1,33 +1,26 @@
-// The x of every placed point, from links and gaps; the place where a line bends; and a line, read back from the table.
+// The x of every placed point, from links and gaps; and the place where a line bends.
 // For the crates above: it asks for the table of a drawing, which they have.
 use rules::Bend;
-use rules::Line;
 use rules::Place;
 use store_links::GAP_OFFSET;
-use store_links::bend_from;
-use store_tables::BENDS;
 use store_tables::DLS;
 use store_tables::DRS;
 use store_tables::GAP;
 use store_tables::HS;
-use store_tables::LATER;
 use store_tables::NEXT;
 use store_tables::OWNER;
 use store_tables::POINTS;
-use store_tables::WORDS;
 use store_tables::YS;
 use words::broad;
 use words::narrow;
 ghost use mathlib.Core.Path.{_≡_};
-ghost use Prim.Native.Nat.{_+_, _-_, _<_, _≤_};
+ghost use Prim.Native.Nat.{_<_, _≤_};
 ghost use lib.ListN.{length, getD};
-ghost use Rattle.rules.specs.Points.{at};
 ghost use Rattle.store_tables.specs.Tables.{Full, arraysIn};
 ghost use Rattle.store_settling.specs.Walk.{firstPass, Walks};
 ghost use Rattle.store_settling.specs.Hang.{hangBy, HangsBy, hung, Hangs};
 ghost use Rattle.store_settling.specs.Placed.{Settleable, Settled};
 ghost use Rattle.store_settling.specs.Bends.{Bendable, bendIn};
-ghost use Rattle.store_settling.specs.Lines.{lineIn};
 
 // The first pass: boundary points along the links from point 1, which lies at 0.
 fn walk(x: &mut [u16; POINTS], next: &[u16], gap: &[u16], k: usize)
@@ -85,39 +78,6 @@ pub fn settle(x: &mut [u16; POINTS], table: &[u16], k: usize)
     hang(x, &table[GAP..OWNER], &table[OWNER..YS], k);
 }
 
-// Left port j of a point at (x, y) with dl left ports.
-fn left_port(x: u16, y: u16, dl: u16, j: u16) -> Place
-    requires { ⌜ (j ≤ dl) × (dl + 1 ≤ x) × (y + j < 65536) ⌝ }
-    ensures { λ r. ⌜ r ≡ at (x - (dl + 1)) (y + j) ⌝ }
-{
-    Place {
-        x: x - (dl + 1),
-        y: y + j,
-    }
-}
-
-// Right port j of a point at (x, y) with dr right ports.
-fn right_port(x: u16, y: u16, dr: u16, j: u16) -> Place
-    requires { ⌜ (j ≤ dr) × (x + dr + 1 < 65536) × (y + j < 65536) ⌝ }
-    ensures { λ r. ⌜ r ≡ at (x + dr + 1) (y + j) ⌝ }
-{
-    Place {
-        x: x + dr + 1,
-        y: y + j,
-    }
-}
-
-// Middle port i of a point at (x, y) whose middle row lies h below it.
-fn middle_port(x: u16, y: u16, h: u16, i: u16) -> Place
-    requires { ⌜ (x + i < 65536) × (h ≤ x + i) × (h ≤ y) ⌝ }
-    ensures { λ r. ⌜ r ≡ at (x + i - h) (y - h) ⌝ }
-{
-    Place {
-        x: x + i - h,
-        y: y - h,
-    }
-}
-
 // Where a line bends, from the places of now.
 pub fn bend_of(x: &[u16; POINTS], table: &[u16], later: usize, earlier: usize, b: Bend) -> Place
     requires { ⌜ Bendable (now x) (arraysIn (now table)) later earlier b × Full (now table) ⌝ }
@@ -126,28 +86,12 @@ pub fn bend_of(x: &[u16; POINTS], table: &[u16], later: usize, earlier: usize, b
     let p = later - 1;
     let q = earlier - 1;
     match b {
-        Bend::Left(j) => left_port(x[q], table[YS + q], table[DLS + q], j),
-        Bend::Right(j) => right_port(x[q], table[YS + q], table[DRS + q], j),
-        Bend::Middle(i) => middle_port(x[p], table[YS + p], table[HS + p], i),
+        Bend::Left(j) => store_lines::left_port(x[q], table[YS + q], table[DLS + q], j),
+        Bend::Right(j) => store_lines::right_port(x[q], table[YS + q], table[DRS + q], j),
+        Bend::Middle(i) => store_lines::middle_port(x[p], table[YS + p], table[HS + p], i),
         Bend::Straight => Place {
             x: x[0],
             y: table[YS],
         },
-    }
-}
-
-// Line e of the table.
-pub fn line_in(table: &[u16], e: usize) -> Line
-    requires { ⌜ (e < 3072) × Full (now table) ⌝ }
-    ensures { λ r. ⌜ r ≡ lineIn (arraysIn (now (table .entry))) e ⌝ }
-{
-    let word = table[WORDS + e];
-    let x = words::split(word);
-    let bend = bend_from(table[BENDS + e]);
-    Line {
-        later: table[LATER + e],
-        earlier: x.point,
-        bend,
-        cut: x.cut,
     }
 }

@@ -13,7 +13,7 @@ use Rattle.store_links.specs.declared.Counts.{Counts}
 use Rattle.store_links.specs.Arrays.{Arrays}
 use Rattle.words.specs.Bytes.{withWord}
 use Rattle.store_settling.specs.Bends.{bendIn}
-use Rattle.store_settling.specs.Lines.{lineIn}
+use Rattle.store_lines.specs.Lines.{lineIn}
 use Rattle.write_drawings.specs.Lists.{several, pointBytes, bendAt, lineBytes, fileBytes}
 use Rattle.words.specs.Writing.{Stored, behind, word-stored}
 use Rattle.write_drawings.specs.Stores.{length-several}

@@ -14,7 +14,7 @@ use Rattle.store_links.specs.declared.Counts.{Counts}
 use Rattle.store_links.specs.Arrays.{Arrays}
 use Rattle.promise.specs.Bounds.{Standing}
 use Rattle.store_settling.specs.Bending.{Shows, shows-of, bend-right}
-use Rattle.store_settling.specs.Lines.{lineIn}
+use Rattle.store_lines.specs.Lines.{lineIn}
 use Rattle.store_settling.specs.Lines as Lines
 use Rattle.write_drawings.specs.Lists.{several, pointBytes, bendAt, lineBytes, fileBytes}
 use Rattle.write_drawings.specs.Stores.{length-several}

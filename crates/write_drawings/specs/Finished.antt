@@ -10,7 +10,7 @@ use Rattle.store_links.specs.declared.Counts.{Counts}
 use Rattle.store_links.specs.Arrays.{Arrays}
 use Rattle.store_laws.specs.Adding.{Holds}
 use Rattle.store_settling.specs.Bends.{Bendable}
-use Rattle.store_settling.specs.Lines.{lineIn}
+use Rattle.store_lines.specs.Lines.{lineIn}
 use Rattle.rules.specs.Records.{headSize, placeSize, lineSize}
 use Rattle.write_drawings.specs.Lists.{bendAt}
 

@@ -9,7 +9,7 @@ use Rattle.rules.specs.DrawingFile.{highest, lineWords}
 use Rattle.store_links.specs.declared.Counts.{Counts}
 use Rattle.store_links.specs.Arrays.{Arrays}
 use Rattle.store_settling.specs.Bends.{bendIn}
-use Rattle.store_settling.specs.Lines.{lineIn}
+use Rattle.store_lines.specs.Lines.{lineIn}
 
 -- the bytes f 0, .., f (i - 1), one behind the other
 unfoldable pub several : (ℕ → List ℕ) → ℕ → List ℕ

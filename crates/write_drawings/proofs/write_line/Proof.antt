@@ -5,7 +5,7 @@ use native.Mathlib.Omega.{arith}
 use Rattle.write_drawings.specs.Lists.{bendAt}
 use Rattle.write_drawings.proofs.Written.{bend-found, line-stored}
 use Rattle.store_links.specs.Arrays.{Arrays}
-use Rattle.store_settling.specs.Lines.{lineIn}
+use Rattle.store_lines.specs.Lines.{lineIn}
 use Rattle.store_tables.specs.Tables.{arraysIn}
 use borrow.Author.Needs.{needs}
 use Rattle.write_drawings.proofs.write_line.Statement.{statement}

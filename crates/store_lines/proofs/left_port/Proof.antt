@@ -1,8 +1,8 @@
--- `store_settling::left_port`: the place is the definition's.
+-- `left_port`: the place is the definition's.
 use mathlib.Core.Path.{refl}
 use borrow.Author.Needs.{needs}
-use Rattle.store_settling.proofs.left_port.Statement.{statement}
-use Rattle.store_settling.proofs.left_port.Tie as tie
+use Rattle.store_lines.proofs.left_port.Statement.{statement}
+use Rattle.store_lines.proofs.left_port.Tie as tie
 
 add-t5 : tie.Need-add-t5
 add-t5 c = search needs

@@ -1,8 +1,8 @@
--- `store_settling::line_in` meets its contract: the words that are read are the arrays'.
+-- `line_in` meets its contract: the words that are read are the arrays'.
 use Rattle.store_tables.specs.Tables.{arraysIn, arrays-read, wordsR, laterR, bendsR}
 use borrow.Author.Needs.{needs}
-use Rattle.store_settling.proofs.line_in.Statement.{statement}
-use Rattle.store_settling.proofs.line_in.Tie as tie
+use Rattle.store_lines.proofs.line_in.Statement.{statement}
+use Rattle.store_lines.proofs.line_in.Tie as tie
 
 add-word : tie.Need-add-word
 add-word c = search needs
