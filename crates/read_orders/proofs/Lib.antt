@@ -1,4 +1,3 @@
 pub mod Rests
 pub mod Turns
 pub mod Opens
-pub mod Longs

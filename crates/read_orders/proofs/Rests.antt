@@ -19,7 +19,8 @@ use Rattle.store_laws.specs.Adding.{Holds, called}
 use Rattle.store_adding.specs.Calls.{Answered}
 use Rattle.read_records.specs.Cursors.{cursor}
 use Rattle.read_records.specs.Reading.{Got}
-use Rattle.read_orders.specs.Points.{RefusedBy, Went}
+use Rattle.read_long.specs.Long.{RefusedBy}
+use Rattle.read_orders.specs.Points.{Went}
 use Rattle.rules.specs.Results.{refusing}
 
 -- the record is refused

@@ -1,13 +1,10 @@
 -- The records of the points behind point 3, on the arrays. A contract has the arrays and not the drawing that they hold, so each claim is of every drawing that they hold (there is one at most: `stored-one` of `store_settling`).
-use Prim.Native.Nat.{ℕ, suc, _+_, _*_, _<_, _≤_}
+use Prim.Native.Nat.{ℕ, suc, _≤_}
 use mathlib.Core.Path.{_≡_}
 use mathlib.Core.List.{List}
-use lib.ListN.{length, drop}
-use Rattle.rules.specs.declared.Refusal.{Refusal}
+use lib.ListN.{length}
 use Rattle.rules.specs.Refusals.{Result, good, refused, answer}
 use Rattle.rules.specs.Points.{Drawing}
-use Rattle.rules.specs.Adding.{add}
-use Rattle.rules.specs.Records.{wordsIn}
 use Rattle.rules.specs.OrderFile.{readRest}
 use Rattle.store_links.specs.declared.Added.{Added}
 use Rattle.store_links.specs.declared.Counts.{Counts}
@@ -22,21 +19,6 @@ use Rattle.read_records.specs.Cursors.{cursor}
 pub record Going (f : List ℕ) (at : ℕ) (a : Arrays) (c : Counts) : Type 0 where
   pub ready : Ready a c
   pub place : at ≤ length f
-
--- the same, with more entries at the offset than a boundary has points
-pub record Long (f : List ℕ) (from count : ℕ) (a : Arrays) (c : Counts) : Type 0 where
-  pub ready : Ready a c
-  pub there : from + 2 * count ≤ length f
-  pub many : 1024 < count
-
--- r is what refuses
-pub record RefusedBy {A : Type 0} (o : Result A) (r : Refusal) : Type 0 where
-  pub place : ℕ
-  pub is : o ≡ refused r place
-
--- a call with those entries is refused by r
-abbrev pub LongRead : List ℕ → ℕ → ℕ → Arrays → Counts → Refusal → Type 0
-LongRead f from count a c r = (d : Drawing) → Holds d a c → RefusedBy (add d (wordsIn count (drop from f))) r
 
 -- a point was added to the drawing d: the arrays hold the drawing with it, and the records behind `next` are left
 pub record Went (f : List ℕ) (at : ℕ) (d : Drawing) (a : Arrays) (c : Counts) (next : ℕ) : Type 0 where

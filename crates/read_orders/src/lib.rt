@@ -10,46 +10,22 @@ use read_start::read_first;
 use read_start::read_head;
 use rules::Answer;
 use rules::Refusal;
-use store_judging::judge_entry;
 use store_links::Added;
 use store_links::Counts;
-use store_tables::OWNER;
 use store_tables::POINTS;
 use store_tables::Table;
-use store_tables::YS;
-use words::word_at;
 ghost use mathlib.Core.Path.{_≡_};
 ghost use lib.ListN.{length};
 ghost use Rattle.rules.specs.OrderFile.{readPoints, readOrder};
-ghost use Rattle.store_tables.specs.Tables.{Full, arraysIn};
+ghost use Rattle.store_tables.specs.Tables.{arraysIn};
 ghost use Rattle.store_points.specs.Zeros.{zeros};
 ghost use Rattle.read_records.specs.Cursors.{cursor};
-ghost use Rattle.read_orders.specs.Points.{Long, LongRead, Going, PointRead, RestRead, Headed, Gave};
+ghost use Rattle.read_orders.specs.Points.{Going, PointRead, RestRead, Headed, Gave};
 
 // One point more: the numbers with it, and the offset behind its record.
 enum Step {
     Given { counts: Counts, at: usize },
     Refused(Refusal, usize),
-}
-
-// The refusal of a record with more entries than a boundary has points, at `from` of the file: 21, then entry by entry 6 before 7, then 8.
-fn judge_long(f: &[u8], from: usize, count: usize, table: &[u16], c: Counts) -> Refusal
-    requires { ⌜ Long (now f) from count (arraysIn (now table)) c × Full (now table) ⌝ }
-    ensures { λ r. ⌜ LongRead (now (f .entry)) from count (arraysIn (now (table .entry))) c r ⌝ }
-{
-    if c.n <= c.k {
-        return Refusal::Finished;
-    }
-    let mut i = 0;
-    while i < count {
-        let e = word_at(f, from + 2 * i);
-        let said = judge_entry(e, &table[OWNER..YS], c.k, i);
-        if let Answer::Refused(r, _) = said {
-            return r;
-        }
-        i += 1;
-    }
-    Refusal::NoRun
 }
 
 // One point more: its record, tested and added as a call adds; its refusals stand at its mark.
@@ -61,7 +37,7 @@ fn read_point(f: &[u8], at: usize, table: &mut Table, c: Counts, e: &mut [u16]) 
         Entries::Refused(r, p) => Step::Refused(r, p),
         Entries::Given { count, from, next } => {
             if POINTS < count {
-                return Step::Refused(judge_long(f, from, count, table, c), at);
+                return Step::Refused(read_long::judge_long(f, from, count, table, c), at);
             }
             copy_numbers(f, from, count, e);
             let added = store_adding::add(table, c, &e[..count]);

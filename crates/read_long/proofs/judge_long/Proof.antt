@@ -1,4 +1,4 @@
--- `read_orders::judge_long` meets its contract. The loop's invariant: 6 and 7 are left from entry i on.
+-- `judge_long` meets its contract. The loop's invariant: 6 and 7 are left from entry i on.
 use Prim.Native.Nat.{ℕ, _-_, _<_, _≤_}
 use mathlib.Core.Path.{_≡_, sym, _∙_}
 use mathlib.Core.List.{List}
@@ -9,10 +9,10 @@ use Rattle.store_tables.specs.Tables.{region, arraysIn, ownerR}
 use Rattle.store_judging.specs.Passed.{entry-refused, entry-passed}
 use Rattle.read_records.specs.Cursors.{words-count}
 use Rattle.read_records.specs.Marked.{words-in}
-use Rattle.read_orders.proofs.Longs.{long-finished, long-entry, long-run}
+use Rattle.read_long.proofs.Longs.{long-finished, long-entry, long-run}
 use borrow.Author.Needs.{needs}
-use Rattle.read_orders.proofs.judge_long.Statement.{statement}
-use Rattle.read_orders.proofs.judge_long.Tie as tie
+use Rattle.read_long.proofs.judge_long.Statement.{statement}
+use Rattle.read_long.proofs.judge_long.Tie as tie
 
 abbrev Inv-loop : tie.InvT-loop
 Inv-loop f from count table c i₀ i =

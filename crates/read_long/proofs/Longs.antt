@@ -19,7 +19,7 @@ use Rattle.store_links.specs.Arrays.{Arrays}
 use Rattle.store_links.specs.Judging.{entriesPass}
 use Rattle.store_laws.specs.Tests.{entries-same}
 use Rattle.store_laws.specs.Adding.{Holds}
-use Rattle.read_orders.specs.Points.{RefusedBy}
+use Rattle.read_long.specs.Long.{RefusedBy}
 
 -- 8: entries that are more than the points beside them
 run-long : (i : ℕ) (ws run : List ℕ) → length ws < length run → RefusedBy (runTests i ws run) NoRun
