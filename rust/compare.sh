@@ -3,8 +3,18 @@
 # Then runs the examples from C, and from C++ if there is a compiler for it.
 set -eu
 cd "$(dirname "$0")/.."
+tests='cargo test --release --offline --manifest-path rust/Cargo.toml'
+# The second implementation's own tests need no archive: they run while it is made.
+said=$(mktemp)
+trap 'rm -f "$said"' EXIT
+$tests -p second >"$said" 2>&1 &
 rt staticlib panel_c
-PANEL_ROUNDS=${1:-1} cargo test --release --offline --workspace --manifest-path rust/Cargo.toml
+if ! wait $!; then
+    cat "$said"
+    exit 1
+fi
+cat "$said"
+PANEL_ROUNDS=${1:-1} $tests --workspace --exclude second
 
 library=target/staticlib/libpanel_c.a
 options='-Wall -Wextra -Werror -Iinclude'

@@ -19,11 +19,16 @@ use Rattle.exchange.specs.WholeRead.{whole-read}
 use Rattle.read_orders.specs.Points.{Gave}
 use Rattle.drawing.specs.declared.Drawing.{Drawing}
 use Rattle.store_tables.specs.Tables.{arraysIn}
-use Rattle.drawing.specs.View.{Is}
+use Rattle.drawing.specs.View.{Is, Came}
 use Rattle.drawing.specs.Opens.{blank, Gives}
 use Rattle.answers.specs.declared.Written.{Written}
 use Rattle.answers.specs.declared.Written.the-variants as Written
 use Rattle.write_files.specs.Outputs.{Wrote, Ended, turned}
+use Rattle.write_files.specs.Finishing.{ReachedIn}
+
+-- a drawing that came so has its files
+pub reached-in : {d : Drawing} → Came d → ReachedIn (arraysIn (d .table)) (d .counts)
+reached-in c = record { d = c .plan; reached = c .reached; holds = c .is }
 
 module _ (f : List ℕ) {a : Arrays} {v : Added} (g : Gave (readOrder f) a v) where
   -- An accepted order file gives the drawing that the arrays hold,

@@ -4,7 +4,6 @@ use drawing::Done;
 use drawing::Drawing;
 use rules::Answer;
 use rules::LONGEST_DRAWING;
-use rules::Refusal;
 use store_links::Counts;
 use store_tables::END;
 use store_tables::Table;
@@ -20,7 +19,7 @@ ghost use Rattle.exchange.specs.Built.{Reached, Whole};
 ghost use Rattle.drawing.specs.View.{Is, Came};
 ghost use Rattle.drawing.specs.Opens.{Gives};
 ghost use Rattle.write_files.specs.Outputs.{Wrote, Ended};
-ghost use Rattle.panel.specs.Finishing.{wholeOrder};
+ghost use Rattle.write_files.specs.Finishing.{wholeOrder};
 
 // The drawing of an order file, by value, which keeps demand 3; with a refusal goes a drawing of zeros.
 pub fn drawing_of(order: &[u8]) -> Done
@@ -41,23 +40,12 @@ pub fn drawing_of(order: &[u8]) -> Done
     Done { answer, drawing }
 }
 
-// The drawing file of the drawing in the lent table: 22 while it is unfinished, 24 where the buffer is short. For `panel_c`: it asks for the table of a drawing.
-pub fn write_file(out: &mut [u8], table: &Table, c: Counts) -> Written
-    requires { ⌜ Came (record { counts = c; table = now table }) ⌝ }
-    ensures { λ r. ⌜ ((q : Plan) → Reached q → Holds q (arraysIn (now (table .entry))) c → Wrote (now (out .entry)) (writeDrawing q) (now (out .exit)) r) ⌝ }
-{
-    if c.k < c.n {
-        return Written::Refused(Refusal::Unfinished, 0);
-    }
-    write_files::put_drawing(out, table, c)
-}
-
 // The drawing file of a drawing by value.
 pub fn drawing_file(d: Drawing, out: &mut [u8]) -> Written
     requires { ⌜ Came d ⌝ }
     ensures { λ r. ⌜ ((q : Plan) → Reached q → Is q d → Wrote (now (out .entry)) (writeDrawing q) (now (out .exit)) r) ⌝ }
 {
-    write_file(out, &d.table, d.counts)
+    write_files::drawing_file(out, &d.table, d.counts)
 }
 
 // Its order file, in the same manner.
@@ -65,11 +53,7 @@ pub fn order_file(d: Drawing, out: &mut [u8]) -> Written
     requires { ⌜ Came d ⌝ }
     ensures { λ r. ⌜ ((q : Plan) → Reached q → Is q d → Wrote (now (out .entry)) (wholeOrder q) (now (out .exit)) r) ⌝ }
 {
-    let numbers = d.counts;
-    if numbers.k < numbers.n {
-        return Written::Refused(Refusal::Unfinished, 0);
-    }
-    write_files::put_order(out, &d.table, numbers)
+    write_files::order_file(out, &d.table, d.counts)
 }
 
 // Draws an order file: the drawing file of its drawing, which keeps demand 3, or the refusal of document 01.

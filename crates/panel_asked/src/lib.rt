@@ -35,7 +35,7 @@ pub fn file_from(answer: Answer, out: &mut [u8], table: &Table, c: Counts) -> Fi
             buffer: ANSWERS,
         },
         Answer::Accepted => {
-            let written = panel::write_file(out, table, c);
+            let written = write_files::drawing_file(out, table, c);
             File {
                 written,
                 buffer: OUTPUT,

@@ -1,5 +1,5 @@
-// Both files of the finished drawing in a lent table, written into a buffer that the caller lends: 24 where it is short.
-// For `panel`: it asks for the table of a finished drawing, which the readers give.
+// Both files of the drawing in a lent table, written into a buffer that the caller lends: 24 where it is short.
+// For `panel` and `panel_asked`: it asks for the table of a drawing, a finished one where it does not test that.
 use answers::Written;
 use rules::Refusal;
 use store_links::Counts;
@@ -9,11 +9,12 @@ ghost use Prim.Native.Nat.{_≤_};
 ghost use Rattle.rules.specs.Refusals.{good};
 ghost use Rattle.rules.specs.Points.{Drawing as Plan, fewestPoints, mostPoints};
 ghost use Rattle.rules.specs.OrderFile.{writeOrder};
-ghost use Rattle.rules.specs.DrawingFile.{drawingBytes, drawingLength};
+ghost use Rattle.rules.specs.DrawingFile.{drawingBytes, drawingLength, writeDrawing};
 ghost use Rattle.store_tables.specs.Tables.{arraysIn};
 ghost use Rattle.store_laws.specs.Adding.{Holds};
-ghost use Rattle.exchange.specs.Built.{Whole};
+ghost use Rattle.exchange.specs.Built.{Reached, Whole};
 ghost use Rattle.write_files.specs.Outputs.{Wrote, Ended};
+ghost use Rattle.write_files.specs.Finishing.{wholeOrder, ReachedIn};
 
 // How many bytes the drawing file of n points has: "42n - 60".
 pub fn drawing_length(n: usize) -> usize
@@ -23,7 +24,7 @@ pub fn drawing_length(n: usize) -> usize
     42 * n - 60
 }
 
-// Writes the drawing file.
+// The drawing file of a finished drawing.
 pub fn put_drawing(out: &mut [u8], table: &Table, c: Counts) -> Written
     requires { ⌜ Ended (arraysIn (now table)) c ⌝ }
     ensures { λ r. ⌜ ((d : Plan) → Whole d → Holds d (arraysIn (now (table .entry))) c → Wrote (now (out .entry)) (good (drawingBytes d)) (now (out .exit)) r) ⌝ }
@@ -37,7 +38,7 @@ pub fn put_drawing(out: &mut [u8], table: &Table, c: Counts) -> Written
     Written::Bytes(need)
 }
 
-// Writes the order file.
+// Its order file.
 pub fn put_order(out: &mut [u8], table: &Table, c: Counts) -> Written
     requires { ⌜ Ended (arraysIn (now table)) c ⌝ }
     ensures { λ r. ⌜ ((d : Plan) → Whole d → Holds d (arraysIn (now (table .entry))) c → Wrote (now (out .entry)) (good (writeOrder d)) (now (out .exit)) r) ⌝ }
@@ -47,4 +48,26 @@ pub fn put_order(out: &mut [u8], table: &Table, c: Counts) -> Written
         return Written::Refused(Refusal::OutputShort, 0);
     }
     Written::Bytes(write_orders::write_order(out, table, c))
+}
+
+// The drawing file of a drawing, finished or not: 22 while it is unfinished.
+pub fn drawing_file(out: &mut [u8], table: &Table, c: Counts) -> Written
+    requires { ⌜ ReachedIn (arraysIn (now table)) c ⌝ }
+    ensures { λ r. ⌜ ((q : Plan) → Reached q → Holds q (arraysIn (now (table .entry))) c → Wrote (now (out .entry)) (writeDrawing q) (now (out .exit)) r) ⌝ }
+{
+    if c.k < c.n {
+        return Written::Refused(Refusal::Unfinished, 0);
+    }
+    put_drawing(out, table, c)
+}
+
+// Its order file, in the same manner.
+pub fn order_file(out: &mut [u8], table: &Table, counts: Counts) -> Written
+    requires { ⌜ ReachedIn (arraysIn (now table)) counts ⌝ }
+    ensures { λ r. ⌜ ((q : Plan) → Reached q → Holds q (arraysIn (now (table .entry))) counts → Wrote (now (out .entry)) (wholeOrder q) (now (out .exit)) r) ⌝ }
+{
+    if counts.k < counts.n {
+        return Written::Refused(Refusal::Unfinished, 0);
+    }
+    put_order(out, table, counts)
 }

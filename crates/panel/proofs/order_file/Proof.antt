@@ -1,24 +1,17 @@
--- `panel::order_file` meets its contract.
-use Rattle.write_files.specs.Outputs.{turned}
-use Rattle.panel.specs.Finishing.{early, late, whole-late, ended-late}
+-- `panel::order_file` meets its contract: the file of its table is its own.
 use borrow.Author.Needs.{needs}
+use Rattle.panel.specs.Reading.{reached-in}
 use Rattle.panel.proofs.order_file.Statement.{statement}
 use Rattle.panel.proofs.order_file.Tie as tie
 
-returns : tie.Need-returns
-returns c q r t = rw (early t _ (c .if1 .taken)) (turned _ _ _)
-
-put-order-requires : tie.Need-put-order-requires
-put-order-requires c κs = ended-late (c .before .before .before .before .before .before .before .pre) (search needs)
+order-file-requires : tie.Need-order-file-requires
+order-file-requires c κs = reached-in (c .before .before .before .before .before .pre)
 
 same-length : tie.Need-same-length
 same-length c = search needs
 
-returns-2 : tie.Need-returns-2
-returns-2 c q r t =
-    let p = c .before .before in
-    let h = p .before .before .before .before .if1 .left in
-    rw (late t _ h) (p .put-order .ensures _ (whole-late t r h) t)
+returns : tie.Need-returns
+returns c = search needs
 
 pub order-file-spec : {M : Type 1} → statement M
-order-file-spec = tie.close (tie.spec returns put-order-requires same-length returns-2)
+order-file-spec = tie.close (tie.spec order-file-requires same-length returns)

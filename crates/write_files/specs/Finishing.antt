@@ -13,10 +13,7 @@ use Rattle.store_links.specs.declared.Counts.{Counts}
 use Rattle.store_links.specs.Arrays.{Arrays}
 use Rattle.store_laws.specs.Adding.{Holds}
 use Rattle.exchange.specs.Built.{Reached, Whole}
-use Rattle.drawing.specs.declared.Drawing.{Drawing}
-use Rattle.store_tables.specs.Tables.{arraysIn}
-use Rattle.drawing.specs.View.{Came}
 use Rattle.write_files.specs.Outputs.{Ended}
 
 -- the order file of a drawing: 22 while k < n
 abbrev pub wholeOrder : Plan → Result (List ℕ)
@@ -33,9 +30,16 @@ module _ {q : Plan} {a : Arrays} {c : Counts} (t : Holds q a c) where
   pub late : {A : Type 0} (wanted : Result A) → c .n ≤ c .k → (refuseIf (ltb (q .k) (q .n)) Unfinished 0 >> wanted) ≡ wanted
   late wanted h = rw (le-ltb (q .k) (q .n) (omega (arith, t .stores .k, t .stores .n)))
 
-  -- a finished one is whole
+  -- with all its points it is whole
   pub whole-late : Reached q → c .n ≤ c .k → Whole q
   whole-late r h = record { reached = r; full = omega (arith, t .stores .k, t .stores .n, t .standing .ranged .room) }
 
-pub ended-late : {d : Drawing} → Came d → d .counts .n ≤ d .counts .k → Ended (arraysIn (d .table)) (d .counts)
-ended-late c h = record { d = c .plan; whole = whole-late (c .is) (c .reached) h; holds = c .is }
+-- the arrays hold a drawing that calls or a file reached
+pub record ReachedIn (a : Arrays) (c : Counts) : Type 0 where
+  pub d : Plan
+  pub reached : Reached d
+  pub holds : Holds d a c
+
+-- a finished one is whole
+pub ended-late : {a : Arrays} {c : Counts} → ReachedIn a c → c .n ≤ c .k → Ended a c
+ended-late g h = record { d = g .d; whole = whole-late (g .holds) (g .reached) h; holds = g .holds }

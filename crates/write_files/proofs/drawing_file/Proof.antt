@@ -1,9 +1,9 @@
--- `panel::write_file` meets its contract.
+-- `drawing_file` meets its contract.
 use Rattle.write_files.specs.Outputs.{turned}
-use Rattle.panel.specs.Finishing.{early, late, whole-late, ended-late}
+use Rattle.write_files.specs.Finishing.{early, late, whole-late, ended-late}
 use borrow.Author.Needs.{needs}
-use Rattle.panel.proofs.write_file.Statement.{statement}
-use Rattle.panel.proofs.write_file.Tie as tie
+use Rattle.write_files.proofs.drawing_file.Statement.{statement}
+use Rattle.write_files.proofs.drawing_file.Tie as tie
 
 returns : tie.Need-returns
 returns c q r t = rw (early t _ (c .if1 .taken)) (turned _ _ _)
@@ -20,5 +20,5 @@ returns-2 c q r t =
     let h = p .before .before .if1 .left in
     rw (late t _ h) (p .put-drawing .ensures _ (whole-late t r h) t)
 
-pub write-file-spec : {M : Type 1} → statement M
-write-file-spec = tie.close (tie.spec returns put-drawing-requires same-length returns-2)
+pub drawing-file-spec : {M : Type 1} → statement M
+drawing-file-spec = tie.close (tie.spec returns put-drawing-requires same-length returns-2)
