@@ -13,7 +13,7 @@ use Rattle.store_links.specs.declared.Counts.{Counts}
 use Rattle.store_laws.specs.Adding.{Holds}
 use Rattle.store_tables.specs.Tables.{arraysIn}
 use Rattle.write_files.specs.Outputs.{Wrote}
-use Rattle.panel_told.specs.Telling.{outputBuffer, answersBuffer}
+use Rattle.panel_words.specs.Words.{outputBuffer, answersBuffer}
 use Rattle.panel_asked.specs.declared.File.{File}
 use Rattle.panel_asked.specs.Asking.{outcome}
 

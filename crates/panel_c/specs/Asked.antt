@@ -18,7 +18,8 @@ use Rattle.calls_words.specs.Lists.{callsIn}
 use Rattle.calls.specs.Ran.{Ran}
 use Rattle.read_orders.specs.Points.{Gave}
 use Rattle.panel.specs.Reading.{given}
-use Rattle.panel_told.specs.Telling.{Tells, noBuffer, answersBuffer}
+use Rattle.panel_words.specs.Words.{noBuffer, answersBuffer}
+use Rattle.panel_told.specs.Telling.{Tells}
 use Rattle.panel_asked.specs.Asking.{outcome, Question, IsAnswer, Finds}
 use Rattle.panel_c.specs.Exported.{drew}
 

@@ -1,12 +1,12 @@
 // What C and Rust call: numbers, slices and arrays only, and no `requires`.
 // Each call puts three words of a refusal into `refusal`: its number, its place, and at 24 which buffer was short, 1 the output or 2 the answers; all 0 for none.
-use panel_told::ANSWERS;
-use panel_told::NO_BUFFER;
-use panel_told::OUTPUT;
+use panel_words::ANSWERS;
+use panel_words::NO_BUFFER;
+use panel_words::OUTPUT;
 use store_tables::END;
 use tool::Tool;
 ghost use Rattle.rules.specs.DrawingFile.{drawFile, orderBack};
-ghost use Rattle.panel_told.specs.Telling.{outputBuffer};
+ghost use Rattle.panel_words.specs.Words.{outputBuffer};
 ghost use Rattle.panel_c.specs.Exported.{Exported, CallsExported};
 ghost use Rattle.panel_c.specs.Asked.{OrderAsked, CallsAsked};
 ghost use Rattle.panel_asked.specs.Questions.{moveAsked, pointAsked, lineAsked, cutAsked};

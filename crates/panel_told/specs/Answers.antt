@@ -2,8 +2,6 @@
 use Prim.Native.Nat.{ℕ}
 use mathlib.Core.List.{[], _∷_}
 use lib.Ieee.{Float, binary32, ofBits}
-use Rattle.rules.specs.declared.Bend.{Bend}
-use Rattle.rules.specs.declared.Bend.the-variants.{Left, Right, Middle, Straight}
 use Rattle.rules.specs.Basics.{if_then_else_}
 use Rattle.rules.specs.Refusals.{Result, good, refused}
 use Rattle.answers.specs.declared.PointSeen.{PointSeen}
@@ -17,6 +15,7 @@ use Rattle.answers.specs.declared.Written.the-variants as Written
 use Rattle.tool.specs.declared.Move.the-variants as Move
 use Rattle.answers.specs.declared.Moved.{Moved}
 use Rattle.answers.specs.declared.Moved.the-variants as Moved
+use Rattle.panel_words.specs.Words.{kindOf, portOf}
 use Rattle.panel_told.specs.Telling.{Given, withWords, alone}
 
 -- a file that was written: the number of its bytes
@@ -36,20 +35,6 @@ moveGiven (Moved.Refused r p) = refused r p
 abbrev pub pointGiven : PointSeen → Result (Given ℕ)
 pointGiven (Point.At a) = good (withWords 1 (a .x ∷ a .y ∷ []))
 pointGiven (Point.Refused r p) = refused r p
-
--- "A line's bend is at a left, right or middle port, or it has none"
-abbrev pub kindOf : Bend → ℕ
-kindOf Straight = 0
-kindOf (Left j) = 1
-kindOf (Right j) = 2
-kindOf (Middle i) = 3
-
--- the port's index
-abbrev pub portOf : Bend → ℕ
-portOf Straight = 0
-portOf (Left j) = j
-portOf (Right j) = j
-portOf (Middle i) = i
 
 -- "a line's ends, bend and cut flag"
 abbrev pub lineGiven : LineSeen → Result (Given ℕ)

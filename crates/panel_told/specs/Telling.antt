@@ -2,29 +2,8 @@
 use Prim.Native.Nat.{ℕ}
 use mathlib.Core.Path.{_≡_}
 use mathlib.Core.List.{List, [], _∷_}
-use lib.Dec.{eqb}
-use Rattle.rules.specs.Basics.{if_then_else_}
-use Rattle.rules.specs.declared.Refusal.{Refusal}
-use Rattle.rules.specs.declared.Refusal.the-variants.{OutputShort}
-use Rattle.rules.specs.Refusals.{Result, good, refused, number}
-
--- the buffer that a call can find too short
-abbrev pub noBuffer : ℕ
-noBuffer = 0
-
-abbrev pub outputBuffer : ℕ
-outputBuffer = 1
-
-abbrev pub answersBuffer : ℕ
-answersBuffer = 2
-
--- which buffer was short: 0 unless the number is that of "24 output too short"
-abbrev pub shortOf : ℕ → Refusal → ℕ
-shortOf buffer r = if eqb (number r) (number OutputShort) then buffer else 0
-
--- "A refusal returns number and place", and which buffer was short
-abbrev pub refusalWords : ℕ → Refusal → ℕ → List ℕ
-refusalWords buffer r p = number r ∷ p ∷ shortOf buffer r ∷ []
+use Rattle.rules.specs.Refusals.{Result, good, refused}
+use Rattle.panel_words.specs.Words.{refusalWords}
 
 -- what a call that is not refused gives: a number with words, or a number alone
 pub data Given (A : Type 0) : Type 0 where

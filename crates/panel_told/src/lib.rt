@@ -5,41 +5,10 @@ use answers::LineSeen;
 use answers::Moved;
 use answers::PointSeen;
 use answers::Written;
-use rules::Bend;
-use rules::Refusal;
 use tool::Move;
 ghost use mathlib.Core.Path.{_≡_};
-ghost use Rattle.rules.specs.Basics.{if_then_else_};
-ghost use Rattle.panel_told.specs.Telling.{shortOf, refusalWords, codeOf, refusalOf, Tells};
-ghost use Rattle.panel_told.specs.Answers.{fileGiven, moveGiven, pointGiven, kindOf, portOf, lineGiven, cutGiven};
-
-// The buffer that a call can find too short.
-pub const NO_BUFFER: u64 = 0;
-
-pub const OUTPUT: u64 = 1;
-
-pub const ANSWERS: u64 = 2;
-
-// Which buffer was short: 0 unless the refusal is 24.
-fn short_of(r: Refusal, buffer: u64) -> u64
-    ensures { λ v. ⌜ v ≡ shortOf buffer r ⌝ }
-{
-    if answers::refusal_number(r) == answers::refusal_number(Refusal::OutputShort) {
-        buffer
-    } else {
-        0
-    }
-}
-
-// The three words of a refusal: number, place, and which buffer was short.
-fn refuse(r: Refusal, p: usize, buffer: u64, refusal: &mut [u64; 3])
-    ensures { λ _. ⌜ now (refusal .exit) ≡ refusalWords buffer r p ⌝ }
-{
-    let number = answers::refusal_number(r) as u64;
-    let at = p as u64;
-    let short = short_of(r, buffer);
-    *refusal = [number, at, short];
-}
+ghost use Rattle.panel_told.specs.Telling.{codeOf, refusalOf, Tells};
+ghost use Rattle.panel_told.specs.Answers.{fileGiven, moveGiven, pointGiven, lineGiven, cutGiven};
 
 // The number of bytes written.
 pub fn tell_written(written: Written, buffer: u64, refusal: &mut [u64; 3]) -> u64
@@ -51,7 +20,7 @@ pub fn tell_written(written: Written, buffer: u64, refusal: &mut [u64; 3]) -> u6
             k as u64
         }
         Written::Refused(r, p) => {
-            refuse(r, p, buffer, refusal);
+            panel_words::refuse(r, p, buffer, refusal);
             0
         }
     }
@@ -84,17 +53,10 @@ pub fn tell_move(moved: Moved, buffer: u64, at: &mut [f32; 2], refusal: &mut [u6
             }
         }
         Moved::Refused(r, p) => {
-            refuse(r, p, buffer, refusal);
+            panel_words::refuse(r, p, buffer, refusal);
             0
         }
     }
-}
-
-// A stored number as a word for C.
-fn wide(x: u16) -> u64
-    ensures { λ r. ⌜ r ≡ x ⌝ }
-{
-    x as u64
 }
 
 // A point's place: 1, and its x and y.
@@ -103,48 +65,17 @@ pub fn tell_point(found: PointSeen, buffer: u64, seen: &mut [u64; 2], refusal: &
 {
     match found {
         PointSeen::At(place) => {
-            let x = wide(place.x);
-            let y = wide(place.y);
+            let x = panel_words::wide(place.x);
+            let y = panel_words::wide(place.y);
             *seen = [x, y];
             *refusal = [0, 0, 0];
             1
         }
         PointSeen::Refused(r, p) => {
-            refuse(r, p, buffer, refusal);
+            panel_words::refuse(r, p, buffer, refusal);
             0
         }
     }
-}
-
-// The kind of a bend: 0 straight, 1 at a left port, 2 at a right port, 3 at a middle port.
-fn kind_of(b: Bend) -> u64
-    ensures { λ r. ⌜ r ≡ kindOf b ⌝ }
-{
-    match b {
-        Bend::Straight => 0,
-        Bend::Left(_) => 1,
-        Bend::Right(_) => 2,
-        Bend::Middle(_) => 3,
-    }
-}
-
-// The index of its port, 0 for straight.
-fn port_of(b: Bend) -> u64
-    ensures { λ r. ⌜ r ≡ portOf b ⌝ }
-{
-    match b {
-        Bend::Straight => 0,
-        Bend::Left(j) => wide(j),
-        Bend::Right(j) => wide(j),
-        Bend::Middle(i) => wide(i),
-    }
-}
-
-// How a line is marked: 1 for cut, 0 for guide.
-fn mark_of(cut: bool) -> u64
-    ensures { λ r. ⌜ r ≡ (if cut then 1 else 0) ⌝ }
-{
-    if cut { 1 } else { 0 }
 }
 
 // A line: 1, and its later point, its earlier point, the kind of its bend, the port's index, the bend's x and y, and its mark.
@@ -153,20 +84,20 @@ pub fn tell_line(found: LineSeen, buffer: u64, seen: &mut [u64; 7], refusal: &mu
 {
     match found {
         LineSeen::Seen(l, bend) => {
-            let later = wide(l.later);
-            let earlier = wide(l.earlier);
+            let later = panel_words::wide(l.later);
+            let earlier = panel_words::wide(l.earlier);
             let b = l.bend;
-            let kind = kind_of(b);
-            let port = port_of(b);
-            let x = wide(bend.x);
-            let y = wide(bend.y);
-            let mark = mark_of(l.cut);
+            let kind = panel_words::kind_of(b);
+            let port = panel_words::port_of(b);
+            let x = panel_words::wide(bend.x);
+            let y = panel_words::wide(bend.y);
+            let mark = panel_words::mark_of(l.cut);
             *seen = [later, earlier, kind, port, x, y, mark];
             *refusal = [0, 0, 0];
             1
         }
         LineSeen::Refused(r, p) => {
-            refuse(r, p, buffer, refusal);
+            panel_words::refuse(r, p, buffer, refusal);
             0
         }
     }
@@ -190,7 +121,7 @@ pub fn tell_cut(found: CutSeen, buffer: u64, seen: &mut [u64; 1], refusal: &mut 
             NO_CUT_LINE
         }
         CutSeen::Refused(r, p) => {
-            refuse(r, p, buffer, refusal);
+            panel_words::refuse(r, p, buffer, refusal);
             0
         }
     }

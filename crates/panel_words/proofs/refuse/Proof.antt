@@ -5,9 +5,9 @@ use mathlib.Core.List.{[], _∷_}
 use borrow.Author.Needs.{needs}
 use Rattle.rules.specs.declared.Refusal.{Refusal}
 use Rattle.rules.specs.Refusals.{number}
-use Rattle.panel_told.specs.Telling.{shortOf, refusalWords}
-use Rattle.panel_told.proofs.refuse.Statement.{statement}
-use Rattle.panel_told.proofs.refuse.Tie as tie
+use Rattle.panel_words.specs.Words.{shortOf, refusalWords}
+use Rattle.panel_words.proofs.refuse.Statement.{statement}
+use Rattle.panel_words.proofs.refuse.Tie as tie
 
 refusal-number-requires : tie.Need-refusal-number-requires
 refusal-number-requires c κs = search needs

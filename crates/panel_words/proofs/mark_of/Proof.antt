@@ -1,7 +1,7 @@
 -- `mark_of` meets its contract.
 use mathlib.Core.Path.{refl}
-use Rattle.panel_told.proofs.mark_of.Statement.{statement}
-use Rattle.panel_told.proofs.mark_of.Tie as tie
+use Rattle.panel_words.proofs.mark_of.Statement.{statement}
+use Rattle.panel_words.proofs.mark_of.Tie as tie
 
 returns : tie.Need-returns
 returns c = rw (c .if1 .taken) refl

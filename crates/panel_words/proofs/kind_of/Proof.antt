@@ -1,8 +1,8 @@
 -- `kind_of` meets its contract.
 use mathlib.Core.Path.{refl}
 use borrow.Author.Needs.{needs}
-use Rattle.panel_told.proofs.kind_of.Statement.{statement}
-use Rattle.panel_told.proofs.kind_of.Tie as tie
+use Rattle.panel_words.proofs.kind_of.Statement.{statement}
+use Rattle.panel_words.proofs.kind_of.Tie as tie
 
 enum-told : tie.Need-enum-told
 enum-told c = search needs

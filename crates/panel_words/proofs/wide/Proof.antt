@@ -1,7 +1,7 @@
 -- `wide` meets its contract.
 use borrow.Author.Needs.{needs}
-use Rattle.panel_told.proofs.wide.Statement.{statement}
-use Rattle.panel_told.proofs.wide.Tie as tie
+use Rattle.panel_words.proofs.wide.Statement.{statement}
+use Rattle.panel_words.proofs.wide.Tie as tie
 
 returns : tie.Need-returns
 returns c = search needs

@@ -4,8 +4,8 @@ use borrow.Author.Needs.{needs}
 use borrow.Author.Tests.{eq-eqb, ne-eqb}
 use Rattle.rules.specs.declared.Refusal.the-variants.{OutputShort}
 use Rattle.rules.specs.Refusals.{number}
-use Rattle.panel_told.proofs.short_of.Statement.{statement}
-use Rattle.panel_told.proofs.short_of.Tie as tie
+use Rattle.panel_words.proofs.short_of.Statement.{statement}
+use Rattle.panel_words.proofs.short_of.Tie as tie
 
 refusal-number-requires : tie.Need-refusal-number-requires
 refusal-number-requires c κs = search needs
