@@ -3,6 +3,7 @@
 use answers::Written;
 use rules::Refusal;
 use store_links::Counts;
+use store_tables::POINTS;
 use store_tables::Table;
 ghost use mathlib.Core.Path.{_≡_};
 ghost use Prim.Native.Nat.{_≤_};
@@ -33,7 +34,8 @@ pub fn put_drawing(out: &mut [u8], table: &Table, c: Counts) -> Written
     if out.len() < need {
         return Written::Refused(Refusal::OutputShort, 0);
     }
-    let x = store_looking::settled(table, c.k);
+    let mut x = [0u16; POINTS];
+    store_settling::settle(&mut x, table, c.k);
     write_drawings::write_drawing(out, &x, table, c);
     Written::Bytes(need)
 }

@@ -15,14 +15,14 @@ drawing-length-requires c κs = search needs
 returns : tie.Need-returns
 returns c d w h = let n = need-is w h in short _ _ (omega arith)
 
-settled-requires : tie.Need-settled-requires
-settled-requires c κs = settleable (c .before .before .before .pre .holds)
+settle-requires : tie.Need-settle-requires
+settle-requires c κs = let h = c .before .before .before .before .before .pre .holds in (settleable h, table-long _ (h .sized))
 
 write-drawing-requires : tie.Need-write-drawing-requires
 write-drawing-requires c κs =
     let s = c .before .before .before in
-    let e = s .before .before .before .before .pre in
-    (writable e (s .settled .ensures) (search needs), table-long _ (e .holds .sized))
+    let e = s .before .before .before .before .before .before .pre in
+    (writable e (s .settle .ensures) (search needs), table-long _ (e .holds .sized))
 
 same-length : tie.Need-same-length
 same-length c = search needs
@@ -31,8 +31,8 @@ returns-2 : tie.Need-returns-2
 returns-2 c d w h =
     let t = c .before .before in
     let s = t .before .before .before .before in
-    let n = s .before .before .drawing-length .ensures ∙ need-is w h in
-    full _ _ _ _ (omega arith) n (t .write-drawing .ensures d (finish w h (s .settled .ensures)))
+    let n = s .before .before .before .before .drawing-length .ensures ∙ need-is w h in
+    full _ _ _ _ (omega arith) n (t .write-drawing .ensures d (finish w h (s .settle .ensures)))
 
 pub put-drawing-spec : {M : Type 1} → statement M
 put-drawing-spec =
@@ -40,7 +40,7 @@ put-drawing-spec =
     (tie.spec
     drawing-length-requires
     returns
-    settled-requires
+    settle-requires
     write-drawing-requires
     same-length
     returns-2)
