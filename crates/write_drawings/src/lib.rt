@@ -1,5 +1,5 @@
 // Writes the drawing file of a finished drawing from the lent table and its settled x.
-// For `panel`: it asks for a finished drawing and room in the buffer, which are tested there.
+// For `write_files`: it asks for a finished drawing and room in the buffer, which are tested there.
 use rules::DRAWING_SIZE;
 use rules::END_MARK;
 use rules::LINE_SIZE;

@@ -1,5 +1,5 @@
 // The order writer: the order file of a finished drawing, in one pass over its stored lines.
-// For `panel`: it asks for a finished drawing and room in the buffer, which are tested there.
+// For `write_files`: it asks for a finished drawing and room in the buffer, which are tested there.
 use rules::ENTRIES_MARK;
 use rules::NUMBER_SIZE;
 use rules::ORDER_MARK;
