@@ -6,12 +6,14 @@ use lib.ListN.{length, take, drop}
 use lib.Dec.{leb, ltb, eqb}
 use Rattle.rules.specs.declared.Line.{Line}
 use Rattle.rules.specs.declared.Entry.{Entry}
+use Rattle.rules.specs.declared.Reading.{Reading}
+use Rattle.rules.specs.declared.Reading.the-variants.{Given}
 use Rattle.rules.specs.declared.Bend.{Bend}
 use Rattle.rules.specs.declared.Bend.the-variants.{Left, Right, Middle}
-use Rattle.rules.specs.declared.Refusal.the-variants.{Finished, FewEntries, NotPlaced, Covered, NoRun, NotWhole, NoReach}
+use Rattle.rules.specs.declared.Refusal.the-variants.{Finished, FewEntries, BothMarks, NotPlaced, Covered, NoRun, NotWhole, NoReach}
 use Rattle.rules.specs.Basics.{if_then_else_, grow, elem, snoc, headOf, indexOf}
 use Rattle.rules.specs.Refusals.{Result, good, refused, _>>_, refuseIf}
-use Rattle.rules.specs.Entries.{entryOf}
+use Rattle.rules.specs.Entries.{readEntry, isBoth, pointRead, pointsRead, givenIn}
 use Rattle.rules.specs.Points.{Drawing, xOf, yOf, dlOf, drOf, w, m}
 use Rattle.rules.specs.Moving.{move}
 
@@ -27,6 +29,10 @@ D run = length run - 1
 
 abbrev pub rOf : Drawing → List ℕ → ℕ
 rOf d run = lOf d run + D run
+
+-- the points of entries
+abbrev pub pointsOf : List Entry → List ℕ
+pointsOf es = map (λ e. e .point) es
 
 -- "Points strictly inside the run": all but the first and the last
 abbrev pub allButLast : List ℕ → List ℕ
@@ -113,18 +119,16 @@ allReach x y h c i [] = true
 allReach x y h c i (p ∷ ps) =
     (reaches x y h i (xOf c p) (yOf c p) || reaches x y h (suc i) (xOf c p) (yOf c p)) && allReach x y h c (suc i) ps
 
--- ---- the tests: "21, 5, then entry by entry 6 before 7, then 8, 9, 25"
+-- ---- the tests: "21, 5, then entry by entry" 13, 6, 7, "then 8, 9, 25"
 
-abbrev pub pointsOf : List Entry → List ℕ
-pointsOf es = map (λ e. e .point) es
-
--- 6 "an entry is 0 or not yet placed", 7 "an entry is covered": entries i, i + 1, ..
-abbrev pub entryTests : Drawing → ℕ → List ℕ → Result (Unit {0})
+-- 13 "an entry marked both guide and feeder", 6 "an entry is 0 or not yet placed", 7 "an entry is covered": entries i, i + 1, ..
+abbrev pub entryTests : Drawing → ℕ → List Reading → Result (Unit {0})
 entryTests d i [] = good tt
-entryTests d i (p ∷ ps) = do
-  refuseIf (eqb p 0 || ltb (d .k) p) NotPlaced i
-  refuseIf (not (elem p (d .boundary))) Covered i
-  entryTests d (suc i) ps
+entryTests d i (r ∷ rs) = do
+  refuseIf (isBoth r) BothMarks i
+  refuseIf (eqb (pointRead r) 0 || ltb (d .k) (pointRead r)) NotPlaced i
+  refuseIf (not (elem (pointRead r) (d .boundary))) Covered i
+  entryTests d (suc i) rs
 
 -- 8: "the first entry that isn't next on the boundary after the entry before it": entries i, i + 1, .. beside the boundary from the first entry on
 abbrev pub runTests : ℕ → List ℕ → List ℕ → Result (Unit {0})
@@ -143,18 +147,20 @@ abbrev pub reachTest : ℕ → ℕ → Drawing → List ℕ → Result (Unit {0}
 reachTest l r c run = refuseIf (not (allReach (newX l r c) (newY l r c) (rowHeight run) c 1 (inner run))) NoReach 0
 
 -- those that need no new place
-unfoldable pub callTests : Drawing → List ℕ → Result (Unit {0})
-callTests d run = do
+unfoldable pub callTests : Drawing → List Reading → Result (Unit {0})
+callTests d rs = do
+  let run = pointsRead rs
   refuseIf (leb (d .n) (d .k)) Finished 0
   refuseIf (ltb (length run) 2) FewEntries 0
-  entryTests d 0 run
+  entryTests d 0 rs
   runTests 0 (drop (lOf d run) (d .boundary)) run
   wholeTest d run
 
 -- all of them, in this order
-unfoldable pub judge : Drawing → List ℕ → Result (Unit {0})
-judge d run = do
-  callTests d run
+unfoldable pub judge : Drawing → List Reading → Result (Unit {0})
+judge d rs = do
+  let run = pointsRead rs
+  callTests d rs
   reachTest (lOf d run) (rOf d run) (spread (lOf d run) (rOf d run) d) run
 
 -- ---- "Then the covered points leave it, the new point owns them and stands between wl and wr. Its lines are added last, in entry order. k grows by 1."
@@ -172,10 +178,10 @@ owned test new p (o ∷ os) = (if test p then new else o) ∷ owned test new (su
 abbrev pub newBend : ℕ → ℕ → ℕ → ℕ → ℕ → Bend
 newBend rights lefts last from i = if eqb i 0 then Right rights else if eqb i last then Left lefts else Middle (middleOf from i)
 
--- a line for each entry, from entry i on, "cut unless the entry says guide"
+-- a line for each entry, from entry i on: "a drawing keeps the outcome for each line"
 abbrev pub newLines : ℕ → (ℕ → Bend) → ℕ → List Entry → List Line
 newLines new bend i [] = []
-newLines new bend i (e ∷ es) = record { later = new; earlier = e .point; bend = bend i; cut = e .cut } ∷ newLines new bend (suc i) es
+newLines new bend i (e ∷ es) = record { later = new; earlier = e .point; bend = bend i; kind = e .kind } ∷ newLines new bend (suc i) es
 
 -- c: the drawing after steps 1 to 3; (x,y): the new place
 abbrev pub joined : List Entry → List ℕ → ℕ → ℕ → ℕ → ℕ → Drawing → Drawing
@@ -201,9 +207,12 @@ joinedAt es run l r c = joined es run l r (newX l r c) (newY l r c) c
 unfoldable pub placedNew : Drawing → List Entry → List ℕ → Drawing
 placedNew d es run = joinedAt es run (lOf d run) (rOf d run) (spread (lOf d run) (rOf d run) d)
 
--- adding, from entries; from the 16-bit numbers of a call
-unfoldable pub addEntries : Drawing → List Entry → Result Drawing
-addEntries d es = judge d (pointsOf es) >> good (placedNew d es (pointsOf es))
+-- adding, from what was read; from entries, none of them marked both; from the 16-bit numbers of a call
+unfoldable pub addRead : Drawing → List Reading → Result Drawing
+addRead d rs = judge d rs >> good (placedNew d (givenIn rs) (pointsRead rs))
+
+abbrev pub addEntries : Drawing → List Entry → Result Drawing
+addEntries d es = addRead d (map Given es)
 
 abbrev pub add : Drawing → List ℕ → Result Drawing
-add d call = addEntries d (map entryOf call)
+add d call = addRead d (map readEntry call)

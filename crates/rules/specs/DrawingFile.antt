@@ -4,6 +4,8 @@ use mathlib.Core.Bool.{not, _&&_}
 use mathlib.Core.List.{List, [], _∷_, _++_}
 use lib.ListN.{getD}
 use lib.Dec.{eqb, ltb}
+use Rattle.rules.specs.declared.Kind.{Kind}
+use Rattle.rules.specs.declared.Kind.the-variants.{Guide, Plain, Feeder}
 use Rattle.rules.specs.declared.Line.{Line}
 use Rattle.rules.specs.declared.Place.{Place}
 use Rattle.rules.specs.declared.Entry.{Entry}
@@ -12,7 +14,7 @@ use Rattle.rules.specs.Basics.{if_then_else_, between}
 use Rattle.rules.specs.Refusals.{Result, good, refused, _>>_, _>>=_, refuseIf, placed}
 use Rattle.rules.specs.Points.{Drawing, W, fewestPoints, mostPoints}
 use Rattle.rules.specs.Ports.{bendPlace}
-use Rattle.rules.specs.Adding.{addEntries}
+use Rattle.rules.specs.Adding.{pointsOf, addEntries}
 use Rattle.rules.specs.Records.{Found, several, readRecord, readEnd, fromStart, written, drawingHead, pointPlace, lineShape, endShape}
 use Rattle.rules.specs.OrderFile.{startTest, startWith, readOrder, writeOrder}
 
@@ -28,9 +30,15 @@ writePoints s [] ys = []
 writePoints s (x ∷ xs) [] = []
 writePoints s (x ∷ xs) (y ∷ ys) = written pointPlace (s * x ∷ s * y ∷ []) ++ writePoints s xs ys
 
--- "later point, earlier point, bend x, bend y, 1 for cut or 0 for guide"
+-- "1 for cut or 0 for guide"; "a line's last field in a drawing file is 2 for a feeder"
+abbrev pub lastField : Kind → ℕ
+lastField Guide = 0
+lastField Plain = 1
+lastField Feeder = 2
+
+-- "later point, earlier point, bend x, bend y", and that field
 abbrev pub lineWords : ℕ → Line → Place → List ℕ
-lineWords s l b = l .later ∷ l .earlier ∷ s * b .x ∷ s * b .y ∷ (if l .cut then 1 else 0) ∷ []
+lineWords s l b = l .later ∷ l .earlier ∷ s * b .x ∷ s * b .y ∷ lastField (l .kind) ∷ []
 
 abbrev pub writeLines : Drawing → List Line → List ℕ
 writeLines d [] = []
@@ -61,13 +69,19 @@ drawFile input = readOrder input >>= writeDrawing
 
 -- ---- reading
 
--- a line's later point, and the entry that it stands for:
--- "the earlier point is a plain 16-bit number without a guide bit, and any last field but 0 is taken as cut"
+-- "a line field above 2 is read as plain"
+abbrev pub kindFrom : ℕ → Kind
+kindFrom zero = Guide
+kindFrom (suc zero) = Plain
+kindFrom (suc (suc zero)) = Feeder
+kindFrom (suc (suc (suc v))) = Plain
+
+-- a line's later point, and the entry that it stands for: "the earlier point is a plain 16-bit number without a guide bit"
 abbrev pub laterIn : Found → ℕ
 laterIn f = getD (f .words) 0 0
 
 abbrev pub entryIn : Found → Entry
-entryIn f = record { point = getD (f .words) 1 0; cut = not (eqb (getD (f .words) 4 0) 0) }
+entryIn f = record { point = getD (f .words) 1 0; kind = kindFrom (getD (f .words) 4 0) }
 
 -- "each point's group of lines: the lines in succession that name it as later, perhaps none"; and the lines behind the group
 abbrev pub group : ℕ → List Found → List Entry
@@ -93,11 +107,11 @@ judgeRest (suc c) end d fs = do
 -- "4 to 9 on each point's group of lines in turn"
 unfoldable pub judgeLines : ℕ → ℕ → ℕ → List Found → Result Drawing
 judgeLines n s end fs = do
-  startTest [] (group 1 fs) (groupPlace end fs)
+  startTest [] (pointsOf (group 1 fs)) (groupPlace end fs)
   let gs = behind 1 fs
-  startTest (1 ∷ []) (group 2 gs) (groupPlace end gs)
+  startTest (1 ∷ []) (pointsOf (group 2 gs)) (groupPlace end gs)
   let hs = behind 2 gs
-  startTest (1 ∷ 2 ∷ []) (group 3 hs) (groupPlace end hs)
+  startTest (1 ∷ 2 ∷ []) (pointsOf (group 3 hs)) (groupPlace end hs)
   judgeRest (n - 3) end (startWith n s (group 2 gs) (group 3 hs)) (behind 3 hs)
 
 -- 11: "the first differing byte" of bytes i, i + 1, ..

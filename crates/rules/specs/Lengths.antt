@@ -8,7 +8,7 @@ use lib.Seq.{getD-take}
 use Rattle.rules.specs.declared.Entry.{Entry}
 use Rattle.rules.specs.declared.Bend.{Bend}
 use Rattle.rules.specs.Basics.{snoc}
-use Rattle.rules.specs.Entries.{entryOf}
+use Rattle.rules.specs.Readings.{entryOf}
 use Rattle.rules.specs.Adding.{pointsOf, newLines}
 use Rattle.rules.specs.Records.{bytesOf, wordsIn}
 
@@ -49,3 +49,8 @@ length-words (suc c) (x ∷ y ∷ bs) b = ap suc (length-words c bs (omega arith
 pub bytes-append : (us ws : List ℕ) → bytesOf (us ++ ws) ≡ bytesOf us ++ bytesOf ws
 bytes-append [] ws = refl
 bytes-append (u ∷ us) ws = ap (λ (l : List ℕ). (u / 256) ∷ (u % 256) ∷ l) (bytes-append us ws)
+
+-- a function over two lists, one behind the other
+pub map-append : {A B : Type 0} (f : A → B) (a b : List A) → map f (a ++ b) ≡ map f a ++ map f b
+map-append f [] b = refl
+map-append {B = B} f (x ∷ a) b = ap (λ (l : List B). f x ∷ l) (map-append f a b)

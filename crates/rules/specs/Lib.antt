@@ -17,9 +17,11 @@ pub mod Lookups
 pub mod Moves
 pub mod Ten
 pub mod Cases
+pub mod Feeders
 pub mod Bools
 pub mod Results
 pub mod Numbers
+pub mod Readings
 pub mod Lengths
 pub mod Same
 pub mod RoundTrip

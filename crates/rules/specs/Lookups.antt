@@ -1,4 +1,4 @@
--- "Look-ups give, in grid units, a point's place, a line's ends, bend and cut flag, and some cut line ending at a given point"; 23 where there is no such point or line.
+-- "Look-ups give, in grid units, a point's place, a line's ends, bend and cut flag" (its kind now), "and some cut line ending at a given point"; 23 where there is no such point or line.
 use Prim.Native.Nat.{ℕ, _<_}
 use mathlib.Core.Path.{_≡_}
 use mathlib.Core.Bool.{true, false, not}
@@ -9,6 +9,7 @@ use Rattle.rules.specs.declared.Place.{Place}
 use Rattle.rules.specs.declared.Refusal.the-variants.{NoSuch}
 use Rattle.rules.specs.Basics.{between}
 use Rattle.rules.specs.Refusals.{Result, good, Told, gives, refusedWith, _>>_, refuseIf}
+use Rattle.rules.specs.Entries.{isCut}
 use Rattle.rules.specs.Points.{Drawing, placeOf, lineAt}
 use Rattle.rules.specs.Ports.{bendPlace}
 use Rattle.rules.specs.Demand.{endsAt}
@@ -19,7 +20,7 @@ lookPoint d p = do
   refuseIf (not (between 1 (d .k) p)) NoSuch 0
   good (placeOf d p)
 
--- a line with its ends, bend and cut flag, and where its bend lies
+-- a line with its ends, bend and kind, and where its bend lies
 pub record LineSeen : Type 0 where
   pub line : Line
   pub bendAt : Place
@@ -29,10 +30,10 @@ lookLine d e = do
   refuseIf (not (ltb e (length (d .lines)))) NoSuch 0
   good (record { line = lineAt d e; bendAt = bendPlace d (lineAt d e) })
 
--- line e is a cut line that ends at p
+-- line e is a cut line that ends at p: "a feeder is a cut line"
 pub record CutLineAt (d : Drawing) (p e : ℕ) : Type 0 where
   pub there : e < length (d .lines)
-  pub isCut : lineAt d e .cut ≡ true
+  pub cuts : isCut (lineAt d e .kind) ≡ true
   pub ends : endsAt p (lineAt d e) ≡ true
 
 -- what looking for a cut line gives: its number, or that there is none

@@ -4,10 +4,12 @@ use mathlib.Core.Bool.{Bool, not, _&&_}
 use mathlib.Core.List.{List, [], _∷_, _++_}
 use lib.ListN.{length, getD}
 use lib.Dec.{ltb}
+use Rattle.rules.specs.declared.Kind.{Kind}
+use Rattle.rules.specs.declared.Kind.the-variants.{Guide, Plain, Feeder}
 use Rattle.rules.specs.declared.Line.{Line}
 use Rattle.rules.specs.declared.Place.{Place}
 use Rattle.rules.specs.declared.Refusal.the-variants.{BadTool, Unfinished, NoSuch}
-use Rattle.rules.specs.Basics.{if_then_else_, between}
+use Rattle.rules.specs.Basics.{between}
 use Rattle.rules.specs.Refusals.{Result, good, _>>_, refuseIf}
 use Rattle.rules.specs.Points.{Drawing, placeOf}
 use Rattle.rules.specs.Ports.{bendPlace}
@@ -40,9 +42,14 @@ fiveMoves s t later bend earlier =
     cut (eighths s t (earlier .x)) (eighths s t (earlier .y)) ∷
     lift (t .clearance) ∷ []
 
--- "Each cut line gives five moves."
+-- "Each cut line gives five moves." "A feeder gives its five moves twice in succession."
+abbrev pub repeated : Kind → List Move → List Move
+repeated Guide five = []
+repeated Plain five = five
+repeated Feeder five = five ++ five
+
 abbrev pub movesOf : Drawing → Tool → Line → List Move
-movesOf d t l = if l .cut then fiveMoves (d .s) t (placeOf d (l .later)) (bendPlace d l) (placeOf d (l .earlier)) else []
+movesOf d t l = repeated (l .kind) (fiveMoves (d .s) t (placeOf d (l .later)) (bendPlace d l) (placeOf d (l .earlier)))
 
 -- "Moves are numbered from 0 through the cut lines in line order."
 abbrev pub movesOver : Drawing → Tool → List Line → List Move

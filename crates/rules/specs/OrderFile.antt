@@ -1,32 +1,41 @@
 -- "Order file": 48 44 and n; optionally a scale; n point records; 45 4E.
 use Prim.Native.Nat.{ℕ, zero, suc, _-_, _*_}
-use mathlib.Core.Bool.{Bool, true, not}
+use mathlib.Core.Bool.{not}
 use mathlib.Core.List.{List, [], _∷_, _++_, map}
 use lib.ListN.{getD}
 use lib.Dec.{eqb}
+use Rattle.rules.specs.declared.Kind.{Kind}
+use Rattle.rules.specs.declared.Kind.the-variants.{Plain}
 use Rattle.rules.specs.declared.Line.{Line}
 use Rattle.rules.specs.declared.Entry.{Entry}
-use Rattle.rules.specs.declared.Refusal.the-variants.{OutOfRange, OtherStart}
-use Rattle.rules.specs.Basics.{if_then_else_, between, same, keep}
+use Rattle.rules.specs.declared.Reading.{Reading}
+use Rattle.rules.specs.declared.Refusal.the-variants.{OutOfRange, BothMarks, OtherStart}
+use Rattle.rules.specs.Basics.{if_then_else_, between, same, keep, anyOf}
 use Rattle.rules.specs.Refusals.{Result, good, _>>_, _>>=_, refuseIf, placed}
-use Rattle.rules.specs.Entries.{entryOf, wordOf}
+use Rattle.rules.specs.Entries.{readEntry, wordOf, isBoth, pointsRead, givenIn}
 use Rattle.rules.specs.Points.{Drawing, start, fewestPoints, mostPoints}
-use Rattle.rules.specs.Adding.{addEntries, pointsOf}
+use Rattle.rules.specs.Adding.{addRead}
 use Rattle.rules.specs.Records.{Cursor, Found, first, readRecord, marked, readEnd, fromStart, written, orderHead, scaleShape, pointEntries, endShape}
 
 -- ---- points 1 to 3, in both files
 
--- "Point 1 has no entry, point 2 has 1, point 3 has 1, 2, guide or not": else 4
-abbrev pub startTest : List ℕ → List Entry → ℕ → Result (Unit {0})
-startTest wanted es place = refuseIf (not (same (pointsOf es) wanted)) OtherStart place
+-- "Point 1 has no entry, point 2 has 1, point 3 has 1, 2", of any kind: else 4
+abbrev pub startTest : List ℕ → List ℕ → ℕ → Result (Unit {0})
+startTest wanted points place = refuseIf (not (same points wanted)) OtherStart place
 
--- whether entry i is cut
-abbrev pub cutAt : ℕ → List Entry → Bool
-cutAt i es = getD es i (record { point = 0; cut = true }) .cut
+-- 13, "in the records of points 2 and 3 before 4"
+abbrev pub recordTests : List ℕ → List Reading → ℕ → Result (Unit {0})
+recordTests wanted rs place = do
+  refuseIf (anyOf isBoth rs) BothMarks place
+  startTest wanted (pointsRead rs) place
+
+-- the kind of entry i
+abbrev pub kindAt : ℕ → List Entry → Kind
+kindAt i es = getD es i (record { point = 0; kind = Plain }) .kind
 
 -- the drawing that the entries of points 2 and 3 begin
 abbrev pub startWith : ℕ → ℕ → List Entry → List Entry → Drawing
-startWith n s second third = start n s (cutAt 0 second) (cutAt 0 third) (cutAt 1 third)
+startWith n s second third = start n s (kindAt 0 second) (kindAt 0 third) (kindAt 1 third)
 
 -- ---- reading
 
@@ -46,8 +55,8 @@ givenScale at = do
 abbrev pub readScale : Cursor → Result Scaled
 readScale at = if marked scaleShape at then givenScale at else good (record { s = 1; next = at })
 
-abbrev pub entriesIn : Found → List Entry
-entriesIn f = map entryOf (f .words)
+abbrev pub entriesIn : Found → List Reading
+entriesIn f = map readEntry (f .words)
 
 -- the records of c more points, each tested as adding does, at its mark; then the end
 unfoldable pub readRest : ℕ → Drawing → Cursor → Result Drawing
@@ -56,19 +65,19 @@ readRest zero d at = do
   good d
 readRest (suc c) d at = do
   f ← readRecord pointEntries at
-  e ← placed (f .place) (addEntries d (entriesIn f))
+  e ← placed (f .place) (addRead d (entriesIn f))
   readRest c e (f .next)
 
 -- the records of points 1 to 3, then those of the rest
 unfoldable pub readPoints : ℕ → ℕ → Cursor → Result Drawing
 readPoints n s at = do
   f ← readRecord pointEntries at
-  startTest [] (entriesIn f) (f .place)
+  startTest [] (pointsRead (entriesIn f)) (f .place)
   g ← readRecord pointEntries (f .next)
-  startTest (1 ∷ []) (entriesIn g) (g .place)
+  recordTests (1 ∷ []) (entriesIn g) (g .place)
   h ← readRecord pointEntries (g .next)
-  startTest (1 ∷ 2 ∷ []) (entriesIn h) (h .place)
-  readRest (n - 3) (startWith n s (entriesIn g) (entriesIn h)) (h .next)
+  recordTests (1 ∷ 2 ∷ []) (entriesIn h) (h .place)
+  readRest (n - 3) (startWith n s (givenIn (entriesIn g)) (givenIn (entriesIn h))) (h .next)
 
 -- the drawing of an order file, "record by record: .., then the others; 10 last"
 unfoldable pub readOrder : List ℕ → Result Drawing
@@ -82,7 +91,7 @@ readOrder bytes = do
 
 -- the entries of point p: its lines to earlier points, in order
 abbrev pub entriesOf : ℕ → List Line → List ℕ
-entriesOf p ls = map (λ l. wordOf (record { point = l .earlier; cut = l .cut })) (keep (λ l. eqb (l .later) p) ls)
+entriesOf p ls = map (λ l. wordOf (record { point = l .earlier; kind = l .kind })) (keep (λ l. eqb (l .later) p) ls)
 
 -- the records of points p, p + 1, .., c of them
 abbrev pub orderPoints : ℕ → ℕ → List Line → List ℕ

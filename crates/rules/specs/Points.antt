@@ -1,8 +1,9 @@
 -- "Points, boundary, owners": the drawing as the rules see it, and opening.
 use Prim.Native.Nat.{ℕ}
-use mathlib.Core.Bool.{Bool, true, false}
 use mathlib.Core.List.{List, [], _∷_}
 use lib.ListN.{length, getD}
+use Rattle.rules.specs.declared.Kind.{Kind}
+use Rattle.rules.specs.declared.Kind.the-variants.{Guide, Plain}
 use Rattle.rules.specs.declared.Line.{Line}
 use Rattle.rules.specs.declared.Place.{Place}
 use Rattle.rules.specs.declared.Bend.the-variants.{Left, Right, Straight}
@@ -64,12 +65,12 @@ W d = xOf d 2
 
 -- line e, numbered from 0
 abbrev pub lineAt : Drawing → ℕ → Line
-lineAt d e = getD (d .lines) e (record { later = 0; earlier = 0; bend = Straight; cut = false })
+lineAt d e = getD (d .lines) e (record { later = 0; earlier = 0; bend = Straight; kind = Guide })
 
 -- "Opening places points 1, 2, 3 at (0,0), (6,0), (3,2), boundary 1, 3, 2. After opening, dr of point 1 and dl of point 2 are 1."
--- "Line 1-2 without a port, 3-1 at right port 1 of point 1, 3-2 at left port 1 of point 2", each cut or guide.
-abbrev pub start : ℕ → ℕ → Bool → Bool → Bool → Drawing
-start n s cut12 cut31 cut32 =
+-- "Line 1-2 without a port, 3-1 at right port 1 of point 1, 3-2 at left port 1 of point 2", each of its kind.
+abbrev pub start : ℕ → ℕ → Kind → Kind → Kind → Drawing
+start n s kind12 kind31 kind32 =
     record {
       n = n;
       s = s;
@@ -82,14 +83,14 @@ start n s cut12 cut31 cut32 =
       drs = 1 ∷ 0 ∷ 0 ∷ [];
       hs = 0 ∷ 0 ∷ 0 ∷ [];
       lines =
-          record { later = 2; earlier = 1; bend = Straight; cut = cut12 } ∷
-          record { later = 3; earlier = 1; bend = Right 1; cut = cut31 } ∷
-          record { later = 3; earlier = 2; bend = Left 1; cut = cut32 } ∷ [];
+          record { later = 2; earlier = 1; bend = Straight; kind = kind12 } ∷
+          record { later = 3; earlier = 1; bend = Right 1; kind = kind31 } ∷
+          record { later = 3; earlier = 2; bend = Left 1; kind = kind32 } ∷ [];
     }
 
--- "A drawing opened by a call has s = 1 and its first three lines cut."
+-- "A drawing opened by a call has s = 1 and its first three lines cut", once.
 abbrev pub opening : ℕ → Drawing
-opening n = start n 1 true true true
+opening n = start n 1 Plain Plain Plain
 
 -- "A drawing is opened for n points, n from 3 to 1,024."
 abbrev pub fewestPoints : ℕ

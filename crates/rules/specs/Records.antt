@@ -64,7 +64,7 @@ drawingHead = record { mark = drawingMark; size = plain 4 }
 abbrev pub pointPlace : Shape
 pointPlace = record { mark = placeMark; size = plain 2 }
 
--- "per line 4C 4E, later point, earlier point, bend x, bend y, 1 for cut or 0 for guide"
+-- "per line 4C 4E, later point, earlier point, bend x, bend y", and its kind
 abbrev pub lineShape : Shape
 lineShape = record { mark = lineMark; size = plain 5 }
 

@@ -2,7 +2,7 @@
 use Prim.Native.Nat.{ℕ}
 use mathlib.Core.Bool.{Bool, true, false}
 use Rattle.rules.specs.declared.Refusal.{Refusal}
-use Rattle.rules.specs.declared.Refusal.the-variants.{FileEnds, WrongMark, OutOfRange, OtherStart, FewEntries, NotPlaced, Covered, NoRun, NotWhole, ExtraBytes, OtherDrawing, BadTool, Finished, Unfinished, NoSuch, OutputShort, NoReach}
+use Rattle.rules.specs.declared.Refusal.the-variants.{FileEnds, WrongMark, OutOfRange, OtherStart, FewEntries, NotPlaced, Covered, NoRun, NotWhole, ExtraBytes, OtherDrawing, BadTool, BothMarks, Finished, Unfinished, NoSuch, OutputShort, NoReach}
 use Rattle.rules.specs.declared.Answer.{Answer}
 use Rattle.rules.specs.declared.Answer.the-variants.{Accepted, Refused}
 
@@ -19,6 +19,7 @@ number NotWhole = 9
 number ExtraBytes = 10
 number OtherDrawing = 11
 number BadTool = 12
+number BothMarks = 13
 number Finished = 21
 number Unfinished = 22
 number NoSuch = 23

@@ -1,42 +1,45 @@
 -- Reading back what was written: an entry, the numbers of a record, a record.
-use Prim.Native.Nat.{ℕ, suc, _+_, _*_, _/_, _%_, _<_}
+use Prim.Native.Nat.{ℕ, zero, suc, _+_, _*_, _/_, _%_, _<_}
 use mathlib.Core.Path.{_≡_, refl, ap, sym, _∙_}
-use mathlib.Core.Bool.{Bool, true, false, not}
+use mathlib.Core.Bool.{not, false, true≢false}
 use mathlib.Core.List.{List, [], _∷_, _++_}
 use native.Mathlib.Omega.{arith}
 use lib.ListN.{length, length-append}
 use lib.Seq.{drop-at}
-use lib.Dec.{leb, eqb}
-use borrow.Author.Tests.{le-leb, lt-leb, leb-true, leb-false, le-ltb, eq-eqb}
+use lib.Dec.{eqb}
+use borrow.Author.Tests.{le-ltb, eq-eqb}
+use Rattle.rules.specs.declared.Kind.{Kind}
+use Rattle.rules.specs.declared.Kind.the-variants.{Guide, Plain, Feeder}
 use Rattle.rules.specs.declared.Entry.{Entry}
+use Rattle.rules.specs.declared.Reading.the-variants.{Given}
 use Rattle.rules.specs.declared.Refusal.the-variants.{WrongMark}
-use Rattle.rules.specs.Basics.{if_then_else_}
 use Rattle.rules.specs.Refusals.{Result, good, _>>=_, _>>_, refuseIf}
-use Rattle.rules.specs.Entries.{entryOf, wordOf, pointLimit}
+use Rattle.rules.specs.Entries.{pointLimit, reading, readEntry, topBits, wordOf, isBoth}
+use Rattle.rules.specs.Readings.{kindIn, entryOf}
 use Rattle.rules.specs.Lengths.{length-bytes}
 use Rattle.rules.specs.Records.{Size, plain, counted, Shape, Found, bytesOf, sized, written, wordsIn, wordsAt, first, restOf, readRecord}
 
 -- an entry, written and read
-pub entry-back : (e : Entry) → e .point < pointLimit → entryOf (wordOf e) ≡ e
-entry-back e h = go (e .cut) refl
+pub entry-back : (e : Entry) → e .point < pointLimit → readEntry (wordOf e) ≡ Given e
+entry-back e h = go (e .kind) refl
   where
-    go : (c : Bool) → e .cut ≡ c → entryOf (e .point + (if c then 0 else pointLimit)) ≡ e
-    go true q =
-        let p : (e .point + 0) % pointLimit ≡ e .point = omega arith in
-        let t : not (leb pointLimit (e .point + 0)) ≡ e .cut = ap not (lt-leb pointLimit (e .point + 0) (omega arith)) ∙ sym q in
-        λ i. record { point = p i; cut = t i }
-    go false q =
-        let p : (e .point + pointLimit) % pointLimit ≡ e .point = omega arith in
-        let t : not (leb pointLimit (e .point + pointLimit)) ≡ e .cut = ap not (le-leb pointLimit (e .point + pointLimit) (omega arith)) ∙ sym q in
-        λ i. record { point = p i; cut = t i }
+    at : (b : ℕ) → readEntry (e .point + b * pointLimit) ≡ reading (e .point) b
+    at b = let p : (e .point + b * pointLimit) % pointLimit ≡ e .point = omega arith in let t : (e .point + b * pointLimit) / pointLimit ≡ b = omega arith in rw (p, t)
 
--- a 16-bit number, read as an entry and written
-pub word-back : (w : ℕ) → w < 65536 → wordOf (entryOf w) ≡ w
-word-back w h = go (leb pointLimit w) refl
+    go : (k : Kind) → e .kind ≡ k → readEntry (e .point + topBits k * pointLimit) ≡ Given e
+    go Plain q = at 0 ∙ λ i. Given (record { point = e .point; kind = sym q i })
+    go Feeder q = at 1 ∙ λ i. Given (record { point = e .point; kind = sym q i })
+    go Guide q = at 2 ∙ λ i. Given (record { point = e .point; kind = sym q i })
+
+-- a 16-bit number, read as an entry of one of the three kinds and written
+pub word-back : (w : ℕ) → w < 65536 → isBoth (readEntry w) ≡ false → wordOf (entryOf w) ≡ w
+word-back w h one = go (w / pointLimit) refl one
   where
-    go : (c : Bool) → leb pointLimit w ≡ c → w % pointLimit + (if not c then 0 else pointLimit) ≡ w
-    go true q = let k = leb-true pointLimit w q in omega arith
-    go false q = let k = leb-false pointLimit w q in omega arith
+    go : (b : ℕ) → w / pointLimit ≡ b → isBoth (reading (w % pointLimit) b) ≡ false → w % pointLimit + topBits (kindIn b) * pointLimit ≡ w
+    go zero q o = omega arith
+    go (suc zero) q o = omega arith
+    go (suc (suc zero)) q o = omega arith
+    go (suc (suc (suc b))) q o = absurd (true≢false o)
 
 -- the bytes of numbers, with anything behind them, give the numbers back
 pub words-back : (ws rest : List ℕ) → wordsIn (length ws) (bytesOf ws ++ rest) ≡ ws

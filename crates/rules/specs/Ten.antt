@@ -1,18 +1,19 @@
 -- "Ten drawings and refusals": K1 to K10 as one theorem, by computing; the whole case; and a look at outputs, look-ups and moves.
 use Prim.Native.Nat.{ℕ}
 use mathlib.Core.Path.{_≡_, refl}
-use mathlib.Core.Bool.{true, _&&_}
+use mathlib.Core.Bool.{_&&_}
 use mathlib.Core.List.{List, [], _∷_, _++_, map}
 use lib.ListN.{getD}
 use lib.Dec.{eqb}
 use Rattle.rules.specs.declared.Place.{Place}
 use Rattle.rules.specs.declared.Bend.the-variants.{Straight}
+use Rattle.rules.specs.declared.Kind.the-variants.{Plain}
 use Rattle.rules.specs.declared.Refusal.the-variants.{OutputShort, NoSuch, Unfinished, BadTool}
 use Rattle.rules.specs.Basics.{keep}
 use Rattle.rules.specs.Refusals.{good, refused, Told, gives, refusedWith, told, toldAnswer}
 use Rattle.rules.specs.Points.{Drawing, at, placeOf, opening, opened}
 use Rattle.rules.specs.Ports.{bendPlace}
-use Rattle.rules.specs.Adding.{callTests, judge, placedNew, addEntries}
+use Rattle.rules.specs.Adding.{callTests, judge, placedNew, addRead}
 use Rattle.rules.specs.Calls.{drawn, said}
 use Rattle.rules.specs.OrderFile.{readRest, readPoints, readOrder, writeOrder}
 use Rattle.rules.specs.DrawingFile.{drawingBytes, judgeRest, judgeLines, judgeDrawing, readDrawing, drawFile, orderBack}
@@ -23,7 +24,7 @@ use Rattle.rules.specs.Moves.{Tool, moveAt, cut}
 
 -- the bend of the line a-b, from a later to an earlier point
 abbrev pub bendOn : Drawing → ℕ → ℕ → Place
-bendOn d a b = bendPlace d (getD (keep (λ l. eqb (l .later) a && eqb (l .earlier) b) (d .lines)) 0 (record { later = 0; earlier = 0; bend = Straight; cut = true }))
+bendOn d a b = bendPlace d (getD (keep (λ l. eqb (l .later) a && eqb (l .earlier) b) (d .lines)) 0 (record { later = 0; earlier = 0; bend = Straight; kind = Plain }))
 
 -- the answers in document 01's numbers
 abbrev pub toldOf : ℕ → List (List ℕ) → List (Told (Unit {0}))
@@ -56,7 +57,7 @@ pub ten :
     (opened 1024 ≡ good (opening 1024)) × (told (opened 2) ≡ refusedWith 3 0) × (told (opened 1025) ≡ refusedWith 3 0) ×
     -- K10 adding to a finished drawing: 21
     (toldOf 4 ((1 ∷ 3 ∷ 2 ∷ []) ∷ (1 ∷ 4 ∷ 2 ∷ []) ∷ []) ≡ gives tt ∷ refusedWith 21 0 ∷ [])
-unfolding callTests judge placedNew addEntries
+unfolding callTests judge placedNew addRead
 ten = (refl, refl, refl, refl, refl, refl, refl, refl, refl, refl, refl, refl, refl, refl, refl, refl, refl, refl, refl, refl, refl, refl, refl, refl, refl, refl, refl, refl, refl, refl, refl)
 
 -- "Whole case, order file", "Drawing"
@@ -67,14 +68,14 @@ abbrev pub wholeDrawing : List ℕ
 wholeDrawing = 0x44 ∷ 0x48 ∷ 0x00 ∷ 0x03 ∷ 0x00 ∷ 0x01 ∷ 0x00 ∷ 0x06 ∷ 0x00 ∷ 0x02 ∷ 0x50 ∷ 0x4F ∷ 0x00 ∷ 0x00 ∷ 0x00 ∷ 0x00 ∷ 0x50 ∷ 0x4F ∷ 0x00 ∷ 0x06 ∷ 0x00 ∷ 0x00 ∷ 0x50 ∷ 0x4F ∷ 0x00 ∷ 0x03 ∷ 0x00 ∷ 0x02 ∷ 0x4C ∷ 0x4E ∷ 0x00 ∷ 0x02 ∷ 0x00 ∷ 0x01 ∷ 0x00 ∷ 0x00 ∷ 0x00 ∷ 0x00 ∷ 0x00 ∷ 0x01 ∷ 0x4C ∷ 0x4E ∷ 0x00 ∷ 0x03 ∷ 0x00 ∷ 0x01 ∷ 0x00 ∷ 0x02 ∷ 0x00 ∷ 0x01 ∷ 0x00 ∷ 0x01 ∷ 0x4C ∷ 0x4E ∷ 0x00 ∷ 0x03 ∷ 0x00 ∷ 0x02 ∷ 0x00 ∷ 0x04 ∷ 0x00 ∷ 0x01 ∷ 0x00 ∷ 0x01 ∷ 0x45 ∷ 0x4E ∷ []
 
 pub whole : (drawFile wholeOrder ≡ good wholeDrawing) × (orderBack wholeDrawing ≡ good wholeOrder)
-unfolding callTests judge placedNew addEntries readRest readPoints readOrder writeOrder drawingBytes judgeRest judgeLines judgeDrawing readDrawing
+unfolding callTests judge placedNew addRead readRest readPoints readOrder writeOrder drawingBytes judgeRest judgeLines judgeDrawing readDrawing
 whole = (refl, refl)
 
 -- the two programs print these files, and `refused 10 at 66` where a byte stands behind the drawing
 pub programs :
     (program wholeOrder ≡ wholeDrawing) × (backProgram wholeDrawing ≡ wholeOrder) ×
     (backProgram (wholeDrawing ++ (0 ∷ [])) ≡ 114 ∷ 101 ∷ 102 ∷ 117 ∷ 115 ∷ 101 ∷ 100 ∷ 32 ∷ 49 ∷ 48 ∷ 32 ∷ 97 ∷ 116 ∷ 32 ∷ 54 ∷ 54 ∷ 10 ∷ [])
-unfolding callTests judge placedNew addEntries readRest readPoints readOrder writeOrder drawingBytes judgeRest judgeLines judgeDrawing readDrawing digits
+unfolding callTests judge placedNew addRead readRest readPoints readOrder writeOrder drawingBytes judgeRest judgeLines judgeDrawing readDrawing digits
 programs = (refl, refl, refl)
 
 abbrev tool : Tool
@@ -88,5 +89,5 @@ pub others :
     (lookPoint K4 5 ≡ good (at 6 5)) × (lookPoint K4 6 ≡ refused NoSuch 0) × (lookPoint K4 0 ≡ refused NoSuch 0) ×
     (moveAt K4 tool 27 ≡ good (cut 320 240)) × (moveAt K4 tool 45 ≡ refused NoSuch 0) × (moveAt K3 tool 0 ≡ refused Unfinished 0) ×
     (moveAt K3 (record { pitch = 81; depth = 40; clearance = 1 }) 0 ≡ refused BadTool 0)
-unfolding callTests judge placedNew addEntries readRest readPoints readOrder drawingBytes digits
+unfolding callTests judge placedNew addRead readRest readPoints readOrder drawingBytes digits
 others = (refl, refl, refl, refl, refl, refl, refl, refl, refl, refl)

@@ -16,7 +16,7 @@ pub const LINE_MARK: u16 = 0x4C4E;
 
 pub const END_MARK: u16 = 0x454E;
 
-// How many numbers stand behind the mark: n, s, width, height; x, y; later point, earlier point, bend x, bend y, how it is cut.
+// How many numbers stand behind the mark: n, s, width, height; x, y; later point, earlier point, bend x, bend y, its kind.
 pub const DRAWING_NUMBERS: usize = 4;
 
 pub const PLACE_NUMBERS: usize = 2;
@@ -58,6 +58,7 @@ pub enum Refusal {
     ExtraBytes,
     OtherDrawing,
     BadTool,
+    BothMarks,
     Finished,
     Unfinished,
     NoSuch,
@@ -79,11 +80,18 @@ pub enum Bend {
     Straight,
 }
 
+// What an entry says of its line: a guide isn't cut, a plain line is cut once, a feeder twice.
+pub enum Kind {
+    Guide,
+    Plain,
+    Feeder,
+}
+
 pub struct Line {
     pub later: u16,
     pub earlier: u16,
     pub bend: Bend,
-    pub cut: bool,
+    pub kind: Kind,
 }
 
 // A place on the grid.
@@ -92,8 +100,14 @@ pub struct Place {
     pub y: u16,
 }
 
-// An entry of a call or of an order file: an earlier point, and whether the line to it is cut.
+// An entry of a call or of an order file: an earlier point, and the kind of the line to it.
 pub struct Entry {
     pub point: u16,
-    pub cut: bool,
+    pub kind: Kind,
+}
+
+// The reading of an entry's 16-bit number: an entry of one of the three kinds, or a point marked both guide and feeder.
+pub enum Reading {
+    Given(Entry),
+    Both(u16),
 }
