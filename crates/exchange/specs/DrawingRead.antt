@@ -25,8 +25,8 @@ use Rattle.promise.specs.Within.{counted}
 use Rattle.exchange.specs.Built.{Built, begun, added, Whole}
 use Rattle.rules.specs.Bools.{both, in-range, range-in}
 use Rattle.rules.specs.Results.{never-good, bound, binds-to, tested, goes-to, followed, same-value}
-use Rattle.exchange.specs.Entries.{whole-so}
-use Rattle.exchange.specs.Groups.{writtenAll, AllFit, foundAll, several-back, length-all, linesWords, lines-are, lines-fit, length-lines, lines-read, grown, counts, judge-built, judged-built}
+use Rattle.exchange.specs.Entries.{lengthened, listed, whole-so}
+use Rattle.exchange.specs.Groups.{writtenAll, AllFit, foundAll, several-back, length-all, linesWords, lines-are, lines-fit, length-lines, lines-read, judge-built, judged-built}
 
 -- ---- the point records of a drawing
 
@@ -66,10 +66,10 @@ pub three-left : {n s : ℕ} {second third : List Entry} {ess : List (List Entry
 three-left (begun p q) low high full = refl
 three-left (added {d = d} {e = e} es b h) low high full =
     let a = accepted d e es h in
-    let g = grown d e es h in
+    let g = lengthened d e es h in
     let t = standing b low high in
     let c = m′ d es (a .l) (a .r) (t .sound) (a .run) in
-    let w = a .whole (omega (arith, g .same-n, g .more-k)) in
+    let w = a .whole (omega (arith, g .n, g .k)) in
     let q : m e ≡ m (next d es (a .l) (a .r)) = ap m (a .is) in
     omega (arith, c, w, q, a .run .size, a .run .rm)
 
@@ -141,8 +141,8 @@ judge-written d w =
     let nl : 3 * d .n - 6 ≡ length lw = omega (arith, z .lines, length-lines d (d .lines)) in
     let lines = ap (λ (c : ℕ). several c lineShape (record { offset = o′; bytes = writtenAll lineShape lw ++ end })) nl ∙
     several-back lineShape o′ lw end (lines-fit d (d .lines)) in
-    let c = counts (d .n) (d .s) (w .reached .second) (w .reached .third) (w .reached .built) in
-    let judged = judge-built (w .reached .built) (omega (arith, c .points, w .full)) o″ fs (lines-read d o′ (d .lines) end) in
+    let c = listed (w .reached .built) in
+    let judged = judge-built (w .reached .built) (omega (arith, c .is-k, w .full)) o″ fs (lines-read d o′ (d .lines) end) in
     binds-to _ _ _ _ head
     (goes-to _ _ _ _ _ (range-good (d .n) (d .s) (w .reached .low) (w .reached .high) (w .reached .scale .0) (w .reached .scale .1))
     (binds-to _ _ _ _ points

@@ -14,9 +14,10 @@ use Rattle.rules.specs.declared.Bend.{Bend}
 use Rattle.rules.specs.Basics.{if_then_else_, keep, snoc}
 use Rattle.rules.specs.Refusals.{good}
 use Rattle.rules.specs.Entries.{wordOf}
+use Rattle.rules.specs.Lengths.{map-append}
 use Rattle.rules.specs.Points.{Drawing}
 use Rattle.rules.specs.Adding.{addEntries, newLines, pointsOf}
-use Rattle.rules.specs.OrderFile.{entriesOf, startWith, cutAt}
+use Rattle.rules.specs.OrderFile.{entriesOf, startWith, kindAt}
 use Rattle.promise.specs.Next.{next}
 use Rattle.promise.specs.Accepted.{accepted}
 use Rattle.exchange.specs.Built.{Built, begun, added, Reached, Whole}
@@ -32,11 +33,6 @@ keep-append {A} t (x ∷ a) b = go (t x) (keep-append t a b)
         (if c then x ∷ keep t (a ++ b) else keep t (a ++ b)) ≡ (if c then x ∷ keep t a else keep t a) ++ keep t b
     go true h = ap (λ (l : List A). x ∷ l) h
     go false h = h
-
--- a function over two lists, one behind the other
-map-append : {A B : Type 0} (f : A → B) (a b : List A) → map f (a ++ b) ≡ map f a ++ map f b
-map-append f [] b = refl
-map-append {B = B} f (x ∷ a) b = ap (λ (l : List B). f x ∷ l) (map-append f a b)
 
 -- ---- the lines of one call
 
@@ -56,7 +52,7 @@ keep-other p new f i (e ∷ es) h = rw (ne-eqb new p h) (keep-other p new f (suc
 
 -- the entry that a line stands for
 abbrev pub entryFor : Line → Entry
-entryFor l = record { point = l .earlier; cut = l .cut }
+entryFor l = record { point = l .earlier; kind = l .kind }
 
 -- the new lines stand for the entries of the call
 entries-new : (new : ℕ) (f : ℕ → Bend) (i : ℕ) (es : List Entry) → map entryFor (newLines new f i es) ≡ es
@@ -111,20 +107,20 @@ pub record Listed (n s : ℕ) (second third : List Entry) (rest : List (List Ent
   pub is-k : d .k ≡ 3 + length rest
   pub entries : (p : ℕ) → 0 < p → entriesAt p (d .lines) ≡ getD (every second third rest) (pred p) []
 
--- the entries of point 2, from their points and whether they are cut
-second-is : (es : List Entry) → pointsOf es ≡ 1 ∷ [] → (record { point = 1; cut = cutAt 0 es } ∷ []) ≡ es
+-- the entries of point 2, from their points and kinds
+pub second-is : (es : List Entry) → pointsOf es ≡ 1 ∷ [] → (record { point = 1; kind = kindAt 0 es } ∷ []) ≡ es
 second-is [] h = absurd (let z : _≡_ {A = ℕ} 0 1 = cc in omega arith)
-second-is (a ∷ []) h = let e : a .point ≡ 1 = cc in λ i. record { point = sym e i; cut = a .cut } ∷ []
+second-is (a ∷ []) h = let e : a .point ≡ 1 = cc in λ i. record { point = sym e i; kind = a .kind } ∷ []
 second-is (a ∷ b ∷ es) h = absurd (let z : _≡_ {A = ℕ} 0 1 = cc in omega arith)
 
 -- the same of point 3
-third-is : (es : List Entry) → pointsOf es ≡ 1 ∷ 2 ∷ [] → (record { point = 1; cut = cutAt 0 es } ∷ record { point = 2; cut = cutAt 1 es } ∷ []) ≡ es
+pub third-is : (es : List Entry) → pointsOf es ≡ 1 ∷ 2 ∷ [] → (record { point = 1; kind = kindAt 0 es } ∷ record { point = 2; kind = kindAt 1 es } ∷ []) ≡ es
 third-is [] h = absurd (let z : _≡_ {A = ℕ} 0 1 = cc in omega arith)
 third-is (a ∷ []) h = absurd (let z : _≡_ {A = ℕ} 0 1 = cc in omega arith)
 third-is (a ∷ b ∷ []) h =
     let e : a .point ≡ 1 = cc in
     let f : b .point ≡ 2 = cc in
-    λ i. record { point = sym e i; cut = a .cut } ∷ record { point = sym f i; cut = b .cut } ∷ []
+    λ i. record { point = sym e i; kind = a .kind } ∷ record { point = sym f i; kind = b .kind } ∷ []
 third-is (a ∷ b ∷ c ∷ es) h = absurd (let z : _≡_ {A = ℕ} 0 1 = cc in omega arith)
 
 -- the drawing that points 2 and 3 begin

@@ -1,19 +1,20 @@
 -- Several records written and read back; the groups of a built drawing's line records are its entries, so that judging them in turn builds the drawing again.
 use Prim.Native.Nat.{ℕ, zero, suc, _+_, _-_, _*_, _<_}
 use mathlib.Core.Path.{_≡_, refl, ap, ap₂, sym, _∙_, subst}
-use mathlib.Core.Bool.{Bool, true, false, not}
+use mathlib.Core.Bool.{not}
 use mathlib.Core.List.{List, [], _∷_, _++_, append-assoc, append-nil}
 use native.Mathlib.Nat.{zero-add, suc-mul}
 use native.Mathlib.Omega.{arith}
 use lib.ListN.{length, length-append}
-use lib.Dec.{eqb}
 use borrow.Author.Tests.{eq-eqb, ne-eqb, not-false}
+use Rattle.rules.specs.declared.Kind.{Kind}
+use Rattle.rules.specs.declared.Kind.the-variants.{Guide, Plain, Feeder}
 use Rattle.rules.specs.declared.Line.{Line}
 use Rattle.rules.specs.declared.Entry.{Entry}
 use Rattle.rules.specs.declared.Bend.{Bend}
 use Rattle.rules.specs.declared.Bend.the-variants.{Straight}
 use Rattle.rules.specs.declared.Refusal.the-variants.{OtherStart}
-use Rattle.rules.specs.Basics.{if_then_else_, snoc, same}
+use Rattle.rules.specs.Basics.{snoc, same}
 use Rattle.rules.specs.Same.{same-is}
 use Rattle.rules.specs.Refusals.{Result, good, _>>_, placed}
 use Rattle.rules.specs.Points.{Drawing}
@@ -21,11 +22,10 @@ use Rattle.rules.specs.Adding.{pointsOf, addEntries, newLines, newBend}
 use Rattle.rules.specs.Ports.{bendPlace}
 use Rattle.rules.specs.Records.{Size, Shape, Found, written, readRecord, several, lineShape}
 use Rattle.rules.specs.RoundTrip.{found, Fits, record-back}
-use Rattle.rules.specs.OrderFile.{startTest, cutAt, startWith}
-use Rattle.rules.specs.DrawingFile.{lineWords, writeLines, laterIn, entryIn, group, behind, groupPlace, judgeRest, judgeLines}
-use Rattle.promise.specs.Next.{next}
-use Rattle.promise.specs.Accepted.{accepted}
+use Rattle.rules.specs.OrderFile.{startTest, startWith}
+use Rattle.rules.specs.DrawingFile.{lastField, kindFrom, lineWords, writeLines, laterIn, entryIn, group, behind, groupPlace, judgeRest, judgeLines}
 use Rattle.exchange.specs.Built.{Built, begun, added}
+use Rattle.exchange.specs.Entries.{lengthened, second-is, third-is}
 use Rattle.rules.specs.Lengths.{length-snoc}
 use Rattle.rules.specs.Results.{same-value, bound, binds-to, tested, placed-good}
 
@@ -71,7 +71,7 @@ length-all r c (ws ∷ wss) each h = simp length-append (omega (arith, each ws (
 -- each record holds the later point and the entry of a line
 pub data Reads : List Found → List Line → Type 0 where
   none : Reads [] []
-  some : {f : Found} {fs : List Found} {l : Line} {ls : List Line} → laterIn f ≡ l .later → entryIn f ≡ record { point = l .earlier; cut = l .cut } → Reads fs ls → Reads (f ∷ fs) (l ∷ ls)
+  some : {f : Found} {fs : List Found} {l : Line} {ls : List Line} → laterIn f ≡ l .later → entryIn f ≡ record { point = l .earlier; kind = l .kind } → Reads fs ls → Reads (f ∷ fs) (l ∷ ls)
 
 -- the numbers of each line's record
 abbrev pub linesWords : Drawing → List Line → List (List ℕ)
@@ -93,15 +93,16 @@ pub length-lines : (d : Drawing) (ls : List Line) → length (linesWords d ls) �
 length-lines d [] = refl
 length-lines d (l ∷ ls) = ap suc (length-lines d ls)
 
--- the flag of a line, written and read
-flag-back : (c : Bool) → not (eqb (if c then 1 else 0) 0) ≡ c
-flag-back true = refl
-flag-back false = refl
+-- the last field of a line, written and read
+field-back : (k : Kind) → kindFrom (lastField k) ≡ k
+field-back Guide = refl
+field-back Plain = refl
+field-back Feeder = refl
 
 -- the line records hold the lines
 pub lines-read : (d : Drawing) (o : ℕ) (ls : List Line) (rest : List ℕ) → Reads (foundAll lineShape o (linesWords d ls) rest) ls
 lines-read d o [] rest = none
-lines-read d o (l ∷ ls) rest = some refl (let f = flag-back (l .cut) in λ i. record { point = l .earlier; cut = f i }) (lines-read d (o + 12) ls rest)
+lines-read d o (l ∷ ls) rest = some refl (let f = field-back (l .kind) in λ i. record { point = l .earlier; kind = f i }) (lines-read d (o + 12) ls rest)
 
 -- ---- groups
 
@@ -143,25 +144,6 @@ new-group p bend i (e ∷ es) fs ls r h = go r (new-group p bend (suc i) es)
     go : {fs : List Found} → Reads fs (newLines p bend i (e ∷ es) ++ ls) → ((gs : List Found) (ls : List Line) → Reads gs (newLines p bend (suc i) es ++ ls) → Beyond p ls → Grouped p es gs ls) → Grouped p (e ∷ es) fs ls
     go (some {fs = gs} a b r) rec = more a b (rec gs ls r h)
 
--- ---- one accepted call
-
--- what the drawing e has after the entries es came to d
-pub record Grown (d : Drawing) (es : List Entry) (e : Drawing) : Type 0 where
-  pub same-n : e .n ≡ d .n
-  pub same-s : e .s ≡ d .s
-  pub more-k : e .k ≡ suc (d .k)
-  pub bend : ℕ → Bend
-  pub more-lines : e .lines ≡ d .lines ++ newLines (suc (d .k)) bend 0 es
-
--- promise's next drawing has this
-grown-next : (d : Drawing) (es : List Entry) (l r : ℕ) → Grown d es (next d es l r)
-unfolding next
-grown-next d es l r = record { same-n = refl; same-s = refl; more-k = refl; bend = _; more-lines = refl }
-
--- so has the drawing after an accepted call
-pub grown : (d e : Drawing) (es : List Entry) → addEntries d es ≡ good e → Grown d es e
-grown d e es h = let a = accepted d e es h in rw (a .is) (grown-next d es (a .l) (a .r))
-
 -- ---- the groups of a built drawing
 
 -- judging one point whose group is accepted
@@ -171,20 +153,6 @@ unfolding judgeRest
 judge-one c end d e es fs g h = rw (g, h)
 
 module _ (n s : ℕ) (second third : List Entry) where
-  -- n and s stay, and there is a point for each list of entries
-  pub record Counts (ess : List (List Entry)) (d : Drawing) : Type 0 where
-    pub same-n : d .n ≡ n
-    pub same-s : d .s ≡ s
-    pub points : d .k ≡ 3 + length ess
-
-  -- so it is with every built drawing
-  pub counts : {ess : List (List Entry)} {d : Drawing} → Built n s second third ess d → Counts ess d
-  counts (begun p q) = record { same-n = refl; same-s = refl; points = refl }
-  counts (added {ess} {d} {e} es b h) =
-      let c = counts b in
-      let g = grown d e es h in
-      record { same-n = g .same-n ∙ c .same-n; same-s = g .same-s ∙ c .same-s; points = omega (arith, g .more-k, c .points, length-snoc ess es) }
-
   -- judging count + c points from the records fs on comes to judging c points from d on, with records that hold ls
   record Judged (end count c : ℕ) (d : Drawing) (fs : List Found) (ls : List Line) : Type 0 where
     left : List Found
@@ -201,13 +169,13 @@ module _ (n s : ℕ) (second third : List Entry) where
   -- an accepted call more keeps this
   replays-added : (end : ℕ) {ess : List (List Entry)} {d e : Drawing} (es : List Entry) → Replays end ess d → addEntries d es ≡ good e → Replays end (snoc ess es) e
   replays-added end {ess} {d} {e} es a h =
-      let g = grown d e es h in
+      let g = lengthened d e es h in
       record {
         later = a .later ++ newLines (suc (d .k)) (g .bend) 0 es;
-        all = g .more-lines ∙ ap (λ (v : List Line). v ++ newLines (suc (d .k)) (g .bend) 0 es) (a .all) ∙ append-assoc (startWith n s second third .lines) (a .later) _;
-        far = λ ls b. rw append-assoc (a .far _ (beyond-new (d .k) (g .bend) 0 es ls (rw (g .more-k) at b)));
+        all = g .lines ∙ ap (λ (v : List Line). v ++ newLines (suc (d .k)) (g .bend) 0 es) (a .all) ∙ append-assoc (startWith n s second third .lines) (a .later) _;
+        far = λ ls b. rw append-assoc (a .far _ (beyond-new (d .k) (g .bend) 0 es ls (rw (g .k) at b)));
         judged = λ c fs ls r b.
-            let b′ : Beyond (suc (d .k)) ls = rw (g .more-k) at b in
+            let b′ : Beyond (suc (d .k)) ls = rw (g .k) at b in
             let t = newLines (suc (d .k)) (g .bend) 0 es ++ ls in
             let j = a .judged (suc c) fs t (rw append-assoc at r) (beyond-new (d .k) (g .bend) 0 es ls b′) in
             let u = new-group (suc (d .k)) (g .bend) 0 es (j .left) ls (j .holds) b′ in
@@ -222,23 +190,10 @@ module _ (n s : ℕ) (second third : List Entry) where
 
 -- ---- the groups of points 1 to 3
 
--- entries that name one point
-one-entry : (p : ℕ) (es : List Entry) → pointsOf es ≡ p ∷ [] → es ≡ record { point = p; cut = cutAt 0 es } ∷ []
-one-entry p [] h = cc
-one-entry p (e ∷ []) h = let q : e .point ≡ p = cc in λ i. record { point = q i; cut = e .cut } ∷ []
-one-entry p (e ∷ f ∷ es) h = cc
-
--- entries that name two points
-two-entries : (p q : ℕ) (es : List Entry) → pointsOf es ≡ p ∷ q ∷ [] → es ≡ record { point = p; cut = cutAt 0 es } ∷ record { point = q; cut = cutAt 1 es } ∷ []
-two-entries p q [] h = cc
-two-entries p q (e ∷ []) h = cc
-two-entries p q (e ∷ f ∷ []) h = let a : e .point ≡ p = cc in let b : f .point ≡ q = cc in λ i. record { point = a i; cut = e .cut } ∷ record { point = b i; cut = f .cut } ∷ []
-two-entries p q (e ∷ f ∷ g ∷ es) h = cc
-
 -- the first three lines are those of the entries of points 2 and 3
 start-lines : (n s : ℕ) (second third : List Entry) → pointsOf second ≡ 1 ∷ [] → pointsOf third ≡ 1 ∷ 2 ∷ [] →
     startWith n s second third .lines ≡ newLines 2 (λ i. Straight) 0 second ++ newLines 3 (newBend 1 1 1 1) 0 third
-start-lines n s second third p q = sym (ap₂ (λ (a b : List Entry). newLines 2 (λ i. Straight) 0 a ++ newLines 3 (newBend 1 1 1 1) 0 b) (one-entry 1 second p) (two-entries 1 2 third q))
+start-lines n s second third p q = ap₂ (λ (a b : List Entry). newLines 2 (λ i. Straight) 0 a ++ newLines 3 (newBend 1 1 1 1) 0 b) (second-is second p) (third-is third q)
 
 -- the entries of points 2 and 3 of a built drawing name the points that they must
 begun-points : {n s : ℕ} {second third : List Entry} {ess : List (List Entry)} {d : Drawing} → Built n s second third ess d → (pointsOf second ≡ 1 ∷ []) × (pointsOf third ≡ 1 ∷ 2 ∷ [])
@@ -294,7 +249,7 @@ pub record BuiltSo (n s : ℕ) (d : Drawing) : Type 0 where
   pub many : length rest ≡ n - 3
 
 -- a start that passes its test has the wanted points
-start-passed : {B : Type 0} (wanted : List ℕ) (es : List Entry) (place : ℕ) (t : Result B) (e : B) → (startTest wanted es place >> t) ≡ good e → (pointsOf es ≡ wanted) × (t ≡ good e)
+start-passed : {B : Type 0} (wanted : List ℕ) (es : List Entry) (place : ℕ) (t : Result B) (e : B) → (startTest wanted (pointsOf es) place >> t) ≡ good e → (pointsOf es ≡ wanted) × (t ≡ good e)
 start-passed wanted es place t e h =
     let z = tested (not (same (pointsOf es) wanted)) OtherStart place t e h in
     (same-is (pointsOf es) wanted (not-false (same (pointsOf es) wanted) (z .passed)), z .last)

@@ -14,8 +14,8 @@ use Rattle.rules.specs.declared.Refusal.the-variants.{FileEnds, WrongMark, OutO
 use Rattle.rules.specs.Basics.{if_then_else_, between}
 use Rattle.rules.specs.Refusals.{good, placed, _>>=_, refuseIf}
 use Rattle.rules.specs.Points.{Drawing}
-use Rattle.rules.specs.Adding.{addEntries, pointsOf}
-use Rattle.rules.specs.Entries.{entryOf}
+use Rattle.rules.specs.Adding.{addRead, pointsOf}
+use Rattle.rules.specs.Readings.{entryOf, add-entries}
 use Rattle.rules.specs.Records.{plain, counted, Cursor, Found, first, wordsIn, skip, wordsAt, restOf, readRecord, readEnd, marked, fromStart, orderHead, scaleShape, pointEntries, endShape}
 use Rattle.rules.specs.OrderFile.{Scaled, givenScale, readScale, entriesIn, startWith, readRest, readPoints, readOrder, longestOrder, writeOrder}
 use Rattle.rules.specs.DrawingFile.{drawingBytes, drawingLength, longestDrawing, writeDrawing, drawFile, readDrawing, orderBack}
@@ -25,7 +25,7 @@ use Rattle.rules.specs.Lengths.{length-points, length-words}
 use Rattle.promise.specs.Lined.{length-lines}
 use Rattle.exchange.specs.Built.{Whole}
 use Rattle.exchange.specs.Entries.{lengthened}
-use Rattle.exchange.specs.OrderRead.{start-read}
+use Rattle.exchange.specs.OrderRead.{saidIn, three-read}
 use Rattle.exchange.specs.OrderWrite.{order-written}
 use Rattle.exchange.specs.WholeRead.{whole-read}
 use Rattle.exchange.specs.DrawingRead.{sizes, drawing-read, length-drawing}
@@ -55,7 +55,7 @@ took-plain mark c at f h =
     record { words = b .words; rest = omega (arith, a .rest, b .rest) }
 
 -- a point's record takes 4, and 2 for each entry
-took-point : (at : Cursor) (f : Found) → readRecord pointEntries at ≡ good f → Took (length (entriesIn f)) (4 + 2 * length (entriesIn f)) at f
+took-point : (at : Cursor) (f : Found) → readRecord pointEntries at ≡ good f → Took (length (saidIn f)) (4 + 2 * length (saidIn f)) at f
 took-point at f h =
     let g = bound (wordsAt (at .offset) 1 at) _ f h in
     let m = tested (not (eqb (first (g .value)) (pointEntries .mark))) WrongMark (at .offset) (restOf (at .offset) counted (g .value .next)) f (g .last) in
@@ -88,11 +88,11 @@ rest-grew zero d e at h =
     let g = followed (readEnd at) (good d) e h in
     subst (λ (e : Drawing). Grew d e 0 (length (at .bytes))) (same-value d e (g .last)) (record { n = refl; s = refl; size = omega (arith, took-end at (g .value) (g .first)) })
 rest-grew (suc c) d e at h =
-    let f = bound (readRecord pointEntries at) (λ f. placed (f .place) (addEntries d (entriesIn f)) >>= λ e. readRest c e (f .next)) e h in
-    let es = entriesIn (f .value) in
-    let g = bound (placed (f .value .place) (addEntries d es)) (λ e. readRest c e (f .value .next)) e (f .last) in
+    let f = bound (readRecord pointEntries at) (λ f. placed (f .place) (addRead d (entriesIn f)) >>= λ e. readRest c e (f .next)) e h in
+    let es = saidIn (f .value) in
+    let g = bound (placed (f .value .place) (addRead d (entriesIn (f .value)))) (λ e. readRest c e (f .value .next)) e (f .last) in
     let t = took-point at (f .value) (f .first) in
-    let a = lengthened d (g .value) es (placed-good (f .value .place) (addEntries d es) (g .value) (g .first)) in
+    let a = lengthened d (g .value) es (add-entries d (g .value) (f .value .words) (placed-good (f .value .place) (addRead d (entriesIn (f .value))) (g .value) (g .first))) in
     let l = ap length (a .lines) ∙ length-lines (d .lines) (suc (d .k)) (a .bend) es in
     let r = rest-grew c (g .value) e (f .value .next) (g .last) in
     record { n = r .n ∙ a .n; s = r .s ∙ a .s; size = omega (arith, t .rest, l, r .size) }
@@ -104,22 +104,15 @@ wanted es ps h = sym (length-points es) ∙ ap length h
 -- all n points: 4 bytes for each, 2 for each line, 2 for the end
 points-grew : (n s : ℕ) (at : Cursor) (e : Drawing) → 3 ≤ n → readPoints n s at ≡ good e →
     (e .n ≡ n) × (e .s ≡ s) × (length (at .bytes) ≡ 4 * n + 2 * length (e .lines) + 2)
-unfolding readPoints
-points-grew n s at e low h1 =
-    let f = bound (readRecord pointEntries at) _ e h1 in
-    let tf = start-read [] (f .value) _ e (f .last) in
-    let g = bound (readRecord pointEntries (f .value .next)) _ e (tf .last) in
-    let tg = start-read (1 ∷ []) (g .value) _ e (g .last) in
-    let h = bound (readRecord pointEntries (g .value .next)) _ e (tg .last) in
-    let start = startWith n s (entriesIn (g .value)) (entriesIn (h .value)) in
-    let th = start-read (1 ∷ 2 ∷ []) (h .value) (readRest (n - 3) start (h .value .next)) e (h .last) in
-    let r = rest-grew (n - 3) start e (h .value .next) (th .last) in
-    let a = took-point at (f .value) (f .first) in
-    let b = took-point (f .value .next) (g .value) (g .first) in
-    let c = took-point (g .value .next) (h .value) (h .first) in
-    let na = wanted (entriesIn (f .value)) [] (tf .points) in
-    let nb = wanted (entriesIn (g .value)) (1 ∷ []) (tg .points) in
-    let nc = wanted (entriesIn (h .value)) (1 ∷ 2 ∷ []) (th .points) in
+points-grew n s at e low q =
+    let t = three-read n s at e q in
+    let r = rest-grew (n - 3) (startWith n s (saidIn (t .g)) (saidIn (t .h))) e (t .h .next) (t .last) in
+    let a = took-point at (t .f) (t .first) in
+    let b = took-point (t .f .next) (t .g) (t .second) in
+    let c = took-point (t .g .next) (t .h) (t .third) in
+    let na = wanted (saidIn (t .f)) [] (t .points-f) in
+    let nb = wanted (saidIn (t .g)) (1 ∷ []) (t .points-g) in
+    let nc = wanted (saidIn (t .h)) (1 ∷ 2 ∷ []) (t .points-h) in
     (r .n, r .s, omega (arith, low, a .rest, b .rest, c .rest, na, nb, nc, r .size))
 
 -- ---- the scale

@@ -14,3 +14,4 @@ pub mod FirstBytes
 pub mod Demand2
 pub mod Kept
 pub mod Lengths
+pub mod NeverBoth

@@ -1,13 +1,15 @@
 -- The order file that a finished drawing writes is a list of bytes.
-use Prim.Native.Nat.{ℕ, suc, _+_, _<_, _≤_}
+use Prim.Native.Nat.{ℕ, suc, _+_, _*_, _<_, _≤_}
 use mathlib.Core.Bool.{Bool, true, false}
 use mathlib.Core.List.{List, [], _∷_, map}
 use native.Mathlib.Omega.{arith}
 use lib.ListN.{length, length-map}
 use lib.Dec.{eqb}
+use Rattle.rules.specs.declared.Kind.{Kind}
+use Rattle.rules.specs.declared.Kind.the-variants.{Guide, Plain, Feeder}
 use Rattle.rules.specs.declared.Entry.{Entry}
 use Rattle.rules.specs.Basics.{if_then_else_}
-use Rattle.rules.specs.Entries.{wordOf, pointLimit}
+use Rattle.rules.specs.Entries.{pointLimit, topBits, wordOf}
 use Rattle.rules.specs.Points.{Drawing}
 use Rattle.rules.specs.Records.{written, scaleShape, orderHead, orderMark, scaleMark, entriesMark, endMark}
 use Rattle.rules.specs.OrderFile.{orderScale, writeOrder}
@@ -18,11 +20,12 @@ use Rattle.exchange.specs.OrderWrite.{pointRecord, pointRecords, write-b
 
 -- an entry is a number of 16 bits
 entry-word : (e : Entry) → e .point < pointLimit → wordOf e < 65536
-entry-word e h = go (e .cut)
+entry-word e h = go (e .kind)
   where
-    go : (c : Bool) → e .point + (if c then 0 else pointLimit) < 65536
-    go true = omega arith
-    go false = omega arith
+    go : (k : Kind) → e .point + topBits k * pointLimit < 65536
+    go Plain = omega arith
+    go Feeder = omega arith
+    go Guide = omega arith
 
 -- so are the entries of a point
 entry-words : (es : List Entry) → Fitting es → Words (map wordOf es)

@@ -8,16 +8,18 @@ use lib.ListN.{length}
 use lib.Dec.{ltb}
 use borrow.Author.Tests.{ltb-false, ne-eqb, not-false}
 use Rattle.rules.specs.declared.Entry.{Entry}
-use Rattle.rules.specs.declared.Refusal.the-variants.{OutOfRange, OtherStart, ExtraBytes}
-use Rattle.rules.specs.Basics.{if_then_else_, between, same, snoc}
+use Rattle.rules.specs.declared.Refusal.the-variants.{OutOfRange, BothMarks, OtherStart, ExtraBytes}
+use Rattle.rules.specs.Basics.{if_then_else_, between, snoc, anyOf}
 use Rattle.rules.specs.Same.{same-is}
 use Rattle.rules.specs.Refusals.{Result, good, _>>=_, _>>_, refuseIf, placed}
-use Rattle.rules.specs.Entries.{entryOf, wordOf}
+use Rattle.rules.specs.Entries.{readEntry, wordOf, isBoth, pointsRead, givenIn}
+use Rattle.rules.specs.Readings.{entryOf, words-given, added-given, add-entries}
+use Rattle.rules.specs.Readings as Readings
 use Rattle.rules.specs.Points.{Drawing}
-use Rattle.rules.specs.Adding.{addEntries, pointsOf}
+use Rattle.rules.specs.Adding.{addRead, pointsOf}
 use Rattle.rules.specs.Records.{Cursor, Found, first, readRecord, readEnd, marked, fromStart, written, orderHead, scaleShape, pointEntries, endShape}
-use Rattle.rules.specs.OrderFile.{Scaled, givenScale, readScale, orderScale, startTest, startWith, entriesIn, readRest, readPoints, readOrder, writeOrder}
-use Rattle.rules.specs.Bools.{in-range}
+use Rattle.rules.specs.OrderFile.{Scaled, givenScale, readScale, orderScale, startTest, recordTests, startWith, entriesIn, readRest, readPoints, readOrder, writeOrder}
+use Rattle.rules.specs.Bools.{neither, in-range}
 use Rattle.rules.specs.RoundTrip.{word-back}
 use Rattle.exchange.specs.Built.{Built, begun, added, Whole, Bytes}
 use Rattle.rules.specs.Results.{same-value, bound, followed, tested, test-false, placed-good}
@@ -28,24 +30,29 @@ use Rattle.exchange.specs.OrderWrite.{pointRecord, pointRecords, write-b
 
 -- ---- one record
 
--- 16-bit numbers, read as entries and written
-entries-again : (ws : List ℕ) → Words ws → map wordOf (map entryOf ws) ≡ ws
-entries-again [] h = refl
-entries-again (w ∷ ws) h =
-    let a = word-back w (h .low 0 (omega arith)) in
-    let b = entries-again ws (record { low = λ i b. h .low (suc i) (omega arith) }) in
+-- the entries of a record, none of them marked both
+abbrev pub saidIn : Found → List Entry
+saidIn f = map entryOf (f .words)
+
+-- 16-bit numbers, none of them marked both, read as entries and written
+entries-again : (ws : List ℕ) → Words ws → anyOf isBoth (map readEntry ws) ≡ false → map wordOf (map entryOf ws) ≡ ws
+entries-again [] h one = refl
+entries-again (w ∷ ws) h one =
+    let z = neither (isBoth (readEntry w)) (anyOf isBoth (map readEntry ws)) one in
+    let a = word-back w (h .low 0 (omega arith)) (z .0) in
+    let b = entries-again ws (record { low = λ i b. h .low (suc i) (omega arith) }) (z .1) in
     cc
 
 -- a point's record at the cursor, written from its entries
 record PointRead (at : Cursor) (f : Found) : Type 0 where
-  bytes : at .bytes ≡ pointRecord (entriesIn f) ++ f .next .bytes
+  bytes : at .bytes ≡ pointRecord (saidIn f) ++ f .next .bytes
   rest : Bytes (f .next .bytes)
 
 -- a point's record that was read
-point-read : (at : Cursor) (f : Found) → Bytes (at .bytes) → readRecord pointEntries at ≡ good f → PointRead at f
-point-read at f b h =
+point-read : (at : Cursor) (f : Found) → Bytes (at .bytes) → readRecord pointEntries at ≡ good f → anyOf isBoth (entriesIn f) ≡ false → PointRead at f
+point-read at f b h one =
     let t = reread pointEntries at f b h in
-    record { bytes = t .bytes ∙ ap (λ (ws : List ℕ). written pointEntries ws ++ f .next .bytes) (sym (entries-again (f .words) (t .words))); rest = t .rest }
+    record { bytes = t .bytes ∙ ap (λ (ws : List ℕ). written pointEntries ws ++ f .next .bytes) (sym (entries-again (f .words) (t .words) one)); rest = t .rest }
 
 -- a list without an element
 empty : (l : List ℕ) → length l ≤ 0 → l ≡ []
@@ -71,14 +78,14 @@ record RestRead (n s : ℕ) (second third : List Entry) (ess : List (List Entry)
 
 module _ (n s : ℕ) (second third : List Entry) where
   -- one record before those
-  rest-more : (ess : List (List Entry)) (c : ℕ) (at : Cursor) (f : Found) (e : Drawing) → PointRead at f → RestRead n s second third (snoc ess (entriesIn f)) c (f .next) e →
+  rest-more : (ess : List (List Entry)) (c : ℕ) (at : Cursor) (f : Found) (e : Drawing) → PointRead at f → RestRead n s second third (snoc ess (saidIn f)) c (f .next) e →
       RestRead n s second third ess (suc c) at e
   rest-more ess c at f e p r =
       record {
-        more = entriesIn f ∷ r .more;
+        more = saidIn f ∷ r .more;
         count = ap suc (r .count);
-        built = subst (λ (l : List (List Entry)). Built n s second third l e) (append-assoc ess (entriesIn f ∷ []) (r .more)) (r .built);
-        bytes = p .bytes ∙ ap (λ (l : List ℕ). pointRecord (entriesIn f) ++ l) (r .bytes);
+        built = subst (λ (l : List (List Entry)). Built n s second third l e) (append-assoc ess (saidIn f ∷ []) (r .more)) (r .built);
+        bytes = p .bytes ∙ ap (λ (l : List ℕ). pointRecord (saidIn f) ++ l) (r .bytes);
       }
 
   -- c records and the end, from a built drawing on
@@ -90,11 +97,12 @@ module _ (n s : ℕ) (second third : List Entry) where
       let same : Built n s second third (ess ++ []) e = subst₂ (Built n s second third) (sym (append-nil ess)) (same-value d e (g .last)) t in
       record { more = []; count = refl; built = same; bytes = end-read at (g .value) b (g .first) }
   rest-read (suc c) ess d e at b t h =
-      let f = bound (readRecord pointEntries at) (λ f. placed (f .place) (addEntries d (entriesIn f)) >>= λ e. readRest c e (f .next)) e h in
-      let es = entriesIn (f .value) in
-      let p = point-read at (f .value) b (f .first) in
-      let g = bound (placed (f .value .place) (addEntries d es)) (λ e. readRest c e (f .value .next)) e (f .last) in
-      let new = added es t (placed-good (f .value .place) (addEntries d es) (g .value) (g .first)) in
+      let f = bound (readRecord pointEntries at) (λ f. placed (f .place) (addRead d (entriesIn f)) >>= λ e. readRest c e (f .next)) e h in
+      let es = saidIn (f .value) in
+      let g = bound (placed (f .value .place) (addRead d (entriesIn (f .value)))) (λ e. readRest c e (f .value .next)) e (f .last) in
+      let a = placed-good (f .value .place) (addRead d (entriesIn (f .value))) (g .value) (g .first) in
+      let p = point-read at (f .value) b (f .first) (added-given d (g .value) (entriesIn (f .value)) a) in
+      let new = added es t (add-entries d (g .value) (f .value .words) a) in
       rest-more ess c at (f .value) e p (rest-read c (snoc ess es) (g .value) e (f .value .next) (p .rest) new (g .last))
 
 -- ---- all points
@@ -106,14 +114,33 @@ no-points (e ∷ es) h = absurd (let z : _≡_ {A = ℕ} 0 1 = cc in omega arith
 
 -- a record of point 1, 2 or 3 has the points that it must have, and what follows its test gave e
 pub record StartRead (wanted : List ℕ) (f : Found) {B : Type 0} (after : Result B) (e : B) : Type 0 where
-  pub points : pointsOf (entriesIn f) ≡ wanted
+  pub one : anyOf isBoth (entriesIn f) ≡ false
+  pub given : givenIn (entriesIn f) ≡ saidIn f
+  pub points : pointsOf (saidIn f) ≡ wanted
   pub last : after ≡ good e
 
--- the test of the start passed
-pub start-read : {B : Type 0} (wanted : List ℕ) (f : Found) (after : Result B) (e : B) → (startTest wanted (entriesIn f) (f .place) >> after) ≡ good e → StartRead wanted f after e
+-- the points of a record that passes 4
+start-points : (wanted : List ℕ) (f : Found) {u : Unit {0}} → startTest wanted (pointsRead (entriesIn f)) (f .place) ≡ good u → pointsOf (saidIn f) ≡ wanted
+start-points wanted f h = sym (Readings.points-read (f .words)) ∙ same-is (pointsRead (entriesIn f)) wanted (not-false _ (test-false _ OtherStart (f .place) h))
+
+-- the tests of point 2 or 3 passed
+pub start-read : {B : Type 0} (wanted : List ℕ) (f : Found) (after : Result B) (e : B) → (recordTests wanted (entriesIn f) (f .place) >> after) ≡ good e → StartRead wanted f after e
 start-read wanted f after e h =
-    let t = tested (not (same (pointsOf (entriesIn f)) wanted)) OtherStart (f .place) after e h in
-    record { points = same-is (pointsOf (entriesIn f)) wanted (not-false _ (t .passed)); last = t .last }
+    let t = followed (recordTests wanted (entriesIn f) (f .place)) after e h in
+    let z = tested (anyOf isBoth (entriesIn f)) BothMarks (f .place) _ (t .value) (t .first) in
+    record { one = z .passed; given = words-given (f .words) (z .passed); points = start-points wanted f (z .last); last = t .last }
+
+-- the test of point 1 passed, and without an entry none is marked both
+pub first-read : {B : Type 0} (f : Found) (after : Result B) (e : B) → (startTest [] (pointsRead (entriesIn f)) (f .place) >> after) ≡ good e → StartRead [] f after e
+first-read f after e h =
+    let t = followed (startTest [] (pointsRead (entriesIn f)) (f .place)) after e h in
+    let p = start-points [] f (t .first) in
+    let z = none (f .words) p in
+    record { one = z; given = words-given (f .words) z; points = p; last = t .last }
+  where
+    none : (ws : List ℕ) → pointsOf (map entryOf ws) ≡ [] → anyOf isBoth (map readEntry ws) ≡ false
+    none [] q = refl
+    none (w ∷ ws) q = absurd (let z : _≡_ {A = ℕ} 0 1 = cc in omega arith)
 
 -- the records at the cursor are those of a built drawing
 record PointsRead (n s : ℕ) (at : Cursor) (e : Drawing) : Type 0 where
@@ -125,36 +152,71 @@ record PointsRead (n s : ℕ) (at : Cursor) (e : Drawing) : Type 0 where
   bytes : at .bytes ≡ pointRecords (every second third rest)
 
 -- three records, the first without an entry, and those of the rest
-points-join : (n s : ℕ) (at : Cursor) (e : Drawing) (f g h : Found) → PointRead at f → PointRead (f .next) g → PointRead (g .next) h → pointsOf (entriesIn f) ≡ [] →
-    RestRead n s (entriesIn g) (entriesIn h) [] (n - 3) (h .next) e → PointsRead n s at e
+points-join : (n s : ℕ) (at : Cursor) (e : Drawing) (f g h : Found) → PointRead at f → PointRead (f .next) g → PointRead (g .next) h → pointsOf (saidIn f) ≡ [] →
+    RestRead n s (saidIn g) (saidIn h) [] (n - 3) (h .next) e → PointsRead n s at e
 points-join n s at e f g h pf pg ph z r =
     record {
-      second = entriesIn g;
-      third = entriesIn h;
+      second = saidIn g;
+      third = saidIn h;
       rest = r .more;
       count = r .count;
       built = r .built;
-      bytes = pf .bytes ∙ ap₂ (λ (es : List Entry) (l : List ℕ). pointRecord es ++ l) (no-points (entriesIn f) z)
-          (pg .bytes ∙ ap (λ (l : List ℕ). pointRecord (entriesIn g) ++ l) (ph .bytes ∙ ap (λ (l : List ℕ). pointRecord (entriesIn h) ++ l) (r .bytes)));
+      bytes = pf .bytes ∙ ap₂ (λ (es : List Entry) (l : List ℕ). pointRecord es ++ l) (no-points (saidIn f) z)
+          (pg .bytes ∙ ap (λ (l : List ℕ). pointRecord (saidIn g) ++ l) (ph .bytes ∙ ap (λ (l : List ℕ). pointRecord (saidIn h) ++ l) (r .bytes)));
+    }
+
+-- the records of points 1 to 3, and what follows them
+pub record Three (n s : ℕ) (at : Cursor) (e : Drawing) : Type 0 where
+  pub f : Found
+  pub g : Found
+  pub h : Found
+  pub first : readRecord pointEntries at ≡ good f
+  pub second : readRecord pointEntries (f .next) ≡ good g
+  pub third : readRecord pointEntries (g .next) ≡ good h
+  pub one-f : anyOf isBoth (entriesIn f) ≡ false
+  pub one-g : anyOf isBoth (entriesIn g) ≡ false
+  pub one-h : anyOf isBoth (entriesIn h) ≡ false
+  pub points-f : pointsOf (saidIn f) ≡ []
+  pub points-g : pointsOf (saidIn g) ≡ 1 ∷ []
+  pub points-h : pointsOf (saidIn h) ≡ 1 ∷ 2 ∷ []
+  pub last : readRest (n - 3) (startWith n s (saidIn g) (saidIn h)) (h .next) ≡ good e
+
+pub three-read : (n s : ℕ) (at : Cursor) (e : Drawing) → readPoints n s at ≡ good e → Three n s at e
+unfolding readPoints
+three-read n s at e q =
+    let f = bound (readRecord pointEntries at) _ e q in
+    let tf = first-read (f .value) _ e (f .last) in
+    let g = bound (readRecord pointEntries (f .value .next)) _ e (tf .last) in
+    let tg = start-read (1 ∷ []) (g .value) _ e (g .last) in
+    let h = bound (readRecord pointEntries (g .value .next)) _ e (tg .last) in
+    let th = start-read (1 ∷ 2 ∷ []) (h .value) _ e (h .last) in
+    record {
+      f = f .value;
+      g = g .value;
+      h = h .value;
+      first = f .first;
+      second = g .first;
+      third = h .first;
+      one-f = tf .one;
+      one-g = tg .one;
+      one-h = th .one;
+      points-f = tf .points;
+      points-g = tg .points;
+      points-h = th .points;
+      last = ap₂ (λ (a b : List Entry). readRest (n - 3) (startWith n s a b) (h .value .next)) (sym (tg .given)) (sym (th .given)) ∙ th .last;
     }
 
 -- the records of all points
 points-read : (n s : ℕ) (at : Cursor) (e : Drawing) → Bytes (at .bytes) → readPoints n s at ≡ good e → PointsRead n s at e
-unfolding readPoints
-points-read n s at e b h1 =
-    let f = bound (readRecord pointEntries at) _ e h1 in
-    let tf = start-read [] (f .value) _ e (f .last) in
-    let pf = point-read at (f .value) b (f .first) in
-    let g = bound (readRecord pointEntries (f .value .next)) _ e (tf .last) in
-    let tg = start-read (1 ∷ []) (g .value) _ e (g .last) in
-    let pg = point-read (f .value .next) (g .value) (pf .rest) (g .first) in
-    let h = bound (readRecord pointEntries (g .value .next)) _ e (tg .last) in
-    let second = entriesIn (g .value) in
-    let third = entriesIn (h .value) in
-    let th = start-read (1 ∷ 2 ∷ []) (h .value) (readRest (n - 3) (startWith n s second third) (h .value .next)) e (h .last) in
-    let ph = point-read (g .value .next) (h .value) (pg .rest) (h .first) in
-    let r = rest-read n s second third (n - 3) [] (startWith n s second third) e (h .value .next) (ph .rest) (begun (tg .points) (th .points)) (th .last) in
-    points-join n s at e (f .value) (g .value) (h .value) pf pg ph (tf .points) r
+points-read n s at e b q =
+    let t = three-read n s at e q in
+    let pf = point-read at (t .f) b (t .first) (t .one-f) in
+    let pg = point-read (t .f .next) (t .g) (pf .rest) (t .second) (t .one-g) in
+    let ph = point-read (t .g .next) (t .h) (pg .rest) (t .third) (t .one-h) in
+    let second = saidIn (t .g) in
+    let third = saidIn (t .h) in
+    let r = rest-read n s second third (n - 3) [] (startWith n s second third) e (t .h .next) (ph .rest) (begun (t .points-g) (t .points-h)) (t .last) in
+    points-join n s at e (t .f) (t .g) (t .h) pf pg ph (t .points-f) r
 
 -- ---- the header and the scale
 

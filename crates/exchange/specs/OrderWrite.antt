@@ -10,18 +10,19 @@ use lib.Dec.{eqb}
 use borrow.Author.Tests.{le-leb, eqb-true, eqb-false}
 use Rattle.rules.specs.declared.Line.{Line}
 use Rattle.rules.specs.declared.Entry.{Entry}
-use Rattle.rules.specs.declared.Refusal.the-variants.{OutOfRange, OtherStart}
-use Rattle.rules.specs.Basics.{between, same}
+use Rattle.rules.specs.declared.Refusal.the-variants.{OutOfRange}
+use Rattle.rules.specs.Basics.{between}
 use Rattle.rules.specs.Same.{same-self}
 use Rattle.rules.specs.Refusals.{good, placed}
-use Rattle.rules.specs.Entries.{entryOf, wordOf}
+use Rattle.rules.specs.Entries.{readEntry, wordOf}
+use Rattle.rules.specs.Readings.{given-back, given-one, points-given}
 use Rattle.rules.specs.Points.{Drawing}
-use Rattle.rules.specs.Adding.{addEntries, pointsOf}
+use Rattle.rules.specs.Adding.{addRead, pointsOf}
 use Rattle.rules.specs.Records.{readRecord, written, orderHead, scaleShape, pointEntries, endShape}
-use Rattle.rules.specs.OrderFile.{readScale, orderScale, orderPoints, entriesOf, readRest, readPoints, readOrder, writeOrder}
+use Rattle.rules.specs.OrderFile.{recordTests, readScale, orderScale, orderPoints, entriesOf, readRest, readPoints, readOrder, writeOrder}
 use Rattle.rules.specs.RoundTrip.{record-back}
 use Rattle.exchange.specs.Built.{Built, Whole}
-use Rattle.rules.specs.Results.{binds, goes}
+use Rattle.rules.specs.Results.{binds, goes, then-to}
 use Rattle.exchange.specs.Entries.{entriesAt, entries-words, every, listed}
 use Rattle.exchange.specs.Replay.{Fitting, entries-back, fitting-second, fitting-third, Replays, none, more, Replayed, replayed}
 
@@ -76,14 +77,14 @@ rest-back : {d e : Drawing} {ess : List (List Entry)} → Replays d ess e → (o
 unfolding readRest
 rest-back none o = refl
 rest-back {d} (more {e = e} {ess = ess} es fits h r) o =
-    let q : placed o (addEntries d (map entryOf (map wordOf es))) ≡ good e = rw (entries-back es fits, h) in
+    let q : placed o (addRead d (map readEntry (map wordOf es))) ≡ good e = rw (entries-back es fits, h) in
     binds (readRecord pointEntries (record { offset = o; bytes = pointRecord es ++ pointRecords ess })) _ _ (record-back pointEntries o (map wordOf es) (pointRecords ess) tt) ∙
-    binds (placed o (addEntries d (map entryOf (map wordOf es)))) _ _ q ∙
+    binds (placed o (addRead d (map readEntry (map wordOf es)))) _ _ q ∙
     rest-back r (o + length (pointRecord es))
 
--- the test of points 2 and 3 passes
-start-passes : (wanted : List ℕ) (es : List Entry) → Fitting es → pointsOf es ≡ wanted → not (same (pointsOf (map entryOf (map wordOf es))) wanted) ≡ false
-start-passes wanted es fits h = rw (entries-back es fits, h) (ap not (same-self wanted))
+-- the tests of points 2 and 3 pass
+start-passes : (wanted : List ℕ) (es : List Entry) (place : ℕ) → Fitting es → pointsOf es ≡ wanted → recordTests wanted (map readEntry (map wordOf es)) place ≡ good tt
+start-passes wanted es place fits h = rw (entries-back es fits, given-one es, points-given es, h, same-self wanted)
 
 -- the records of all points
 points-back : (n s : ℕ) (second third : List Entry) (rest : List (List Entry)) (d : Drawing) → Replayed n s second third rest d → n ≡ 3 + length rest → (o : ℕ) →
@@ -99,10 +100,10 @@ points-back n s second third rest d r count o =
     let after1 = pointRecord second ++ after2 in
     binds (readRecord pointEntries (record { offset = o; bytes = pointRecord [] ++ after1 })) _ _ (record-back pointEntries o [] after1 tt) ∙
     binds (readRecord pointEntries (record { offset = o2; bytes = after1 })) _ _ (record-back pointEntries o2 (map wordOf second) after2 tt) ∙
-    goes _ OtherStart o2 _ (start-passes (1 ∷ []) second a (r .second-points)) ∙
+    then-to (recordTests (1 ∷ []) (map readEntry (map wordOf second)) o2) _ _ (start-passes (1 ∷ []) second o2 a (r .second-points)) refl ∙
     binds (readRecord pointEntries (record { offset = o3; bytes = after2 })) _ _ (record-back pointEntries o3 (map wordOf third) after3 tt) ∙
-    goes _ OtherStart o3 _ (start-passes (1 ∷ 2 ∷ []) third b (r .third-points)) ∙
-    (let left : n - 3 ≡ length rest = omega arith in rw (entries-back second a, entries-back third b, left) (rest-back (r .replays) _))
+    then-to (recordTests (1 ∷ 2 ∷ []) (map readEntry (map wordOf third)) o3) _ _ (start-passes (1 ∷ 2 ∷ []) third o3 b (r .third-points)) refl ∙
+    (let left : n - 3 ≡ length rest = omega arith in rw (entries-back second a, entries-back third b, given-back second, given-back third, left) (rest-back (r .replays) _))
 
 -- the scale, with a point's record behind it
 record Scale (s o : ℕ) (rest : List ℕ) : Type 0 where

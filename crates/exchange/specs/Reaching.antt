@@ -1,10 +1,10 @@
 -- Opening and calls reach what they give, whatever was refused among them.
 use Prim.Native.Nat.{ℕ, _≤_}
 use mathlib.Core.Path.{refl}
-use mathlib.Core.Bool.{true}
 use mathlib.Core.List.{List, [], _∷_}
 use native.Mathlib.Omega.{arith}
 use mathlib.Core.Path.{_≡_}
+use Rattle.rules.specs.declared.Kind.the-variants.{Plain}
 use Rattle.rules.specs.declared.Entry.{Entry}
 use Rattle.rules.specs.Refusals.{good}
 use Rattle.rules.specs.Points.{Drawing, opening}
@@ -14,12 +14,12 @@ use Rattle.promise.specs.Accepted.{after-keeps}
 use Rattle.exchange.specs.Built.{Built, begun, added, Reached}
 use Rattle.exchange.specs.Entries.{reached-so}
 
--- the entries of points 2 and 3 of a drawing opened by a call: all cut
+-- the entries of points 2 and 3 of a drawing opened by a call: all plain
 abbrev second : List Entry
-second = record { point = 1; cut = true } ∷ []
+second = record { point = 1; kind = Plain } ∷ []
 
 abbrev third : List Entry
-third = record { point = 1; cut = true } ∷ record { point = 2; cut = true } ∷ []
+third = record { point = 1; kind = Plain } ∷ record { point = 2; kind = Plain } ∷ []
 
 pub reached-opening : (n : ℕ) → 3 ≤ n → n ≤ 1024 → Reached (opening n)
 reached-opening n low high =

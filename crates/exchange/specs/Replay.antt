@@ -1,29 +1,30 @@
--- A built drawing, built again from its start: the entries in order, each of them a point below 32,768, which its 16-bit number keeps.
+-- A built drawing, built again from its start: the entries in order, each of them a point below 16,384, which its 16-bit number keeps.
 use Prim.Native.Nat.{ℕ, zero, suc, _+_, _<_, _≤_}
 use mathlib.Core.Path.{_≡_, refl, ap}
 use mathlib.Core.List.{List, [], _∷_, map}
 use native.Mathlib.Omega.{arith}
 use lib.ListN.{length, getD}
 use Rattle.rules.specs.declared.Entry.{Entry}
+use Rattle.rules.specs.declared.Reading.the-variants.{Given}
 use Rattle.rules.specs.Basics.{snoc}
 use Rattle.rules.specs.Refusals.{good}
-use Rattle.rules.specs.Entries.{entryOf, wordOf, pointLimit}
+use Rattle.rules.specs.Entries.{pointLimit, readEntry, wordOf}
 use Rattle.rules.specs.Points.{Drawing}
 use Rattle.rules.specs.Adding.{addEntries, pointsOf}
-use Rattle.rules.specs.OrderFile.{startWith, cutAt}
+use Rattle.rules.specs.OrderFile.{startWith, kindAt}
 use Rattle.rules.specs.RoundTrip.{entry-back}
 use Rattle.rules.specs.Lengths.{length-points}
 use Rattle.promise.specs.Accepted.{accepted}
 use Rattle.promise.specs.Bounds.{Standing, standing-start, standing-added}
 use Rattle.exchange.specs.Built.{Built, begun, added}
 
--- every entry names a point below 32,768, and there are at most 1,024 of them
+-- every entry names a point below 16,384, and there are at most 1,024 of them
 pub record Fitting (es : List Entry) : Type 0 where
   pub fits : (i : ℕ) → i < length es → getD (pointsOf es) i 0 < pointLimit
   pub few : length es ≤ 1024
 
 -- such entries, written and read
-pub entries-back : (es : List Entry) → Fitting es → map entryOf (map wordOf es) ≡ es
+pub entries-back : (es : List Entry) → Fitting es → map readEntry (map wordOf es) ≡ map Given es
 entries-back [] h = refl
 entries-back (e ∷ es) h =
     let a = entry-back e (h .fits 0 (omega arith)) in
@@ -74,7 +75,7 @@ pub record Replayed (n s : ℕ) (second third : List Entry) (rest : List (List E
 pub replayed : {n s : ℕ} {second third : List Entry} {rest : List (List Entry)} {d : Drawing} → 3 ≤ n → n ≤ 1024 → Built n s second third rest d →
     Replayed n s second third rest d
 replayed {n} {s} {second} {third} low high (begun a b) =
-    record { standing = standing-start n s (cutAt 0 second) (cutAt 0 third) (cutAt 1 third) low high; second-points = a; third-points = b; replays = none }
+    record { standing = standing-start n s (kindAt 0 second) (kindAt 0 third) (kindAt 1 third) low high; second-points = a; third-points = b; replays = none }
 replayed low high (added {d = d} {e = e} es b h) =
     let r = replayed low high b in
     let fits = fitting-added d e es (r .standing) h in

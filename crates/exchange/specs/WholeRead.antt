@@ -11,14 +11,15 @@ use Rattle.rules.specs.declared.Refusal.the-variants.{OutOfRange}
 use Rattle.rules.specs.Basics.{if_then_else_, between, snoc}
 use Rattle.rules.specs.Refusals.{good, placed, _>>=_}
 use Rattle.rules.specs.Points.{Drawing}
-use Rattle.rules.specs.Adding.{addEntries}
+use Rattle.rules.specs.Adding.{addRead}
+use Rattle.rules.specs.Readings.{add-entries}
 use Rattle.rules.specs.Records.{Cursor, first, readRecord, readEnd, marked, fromStart, orderHead, scaleShape, pointEntries}
 use Rattle.rules.specs.OrderFile.{Scaled, givenScale, readScale, entriesIn, startWith, readRest, readPoints, readOrder}
 use Rattle.exchange.specs.Built.{Built, begun, added, Whole}
 use Rattle.rules.specs.Bools.{in-range}
 use Rattle.rules.specs.Results.{bound, followed, tested, same-value, placed-good}
 use Rattle.exchange.specs.Entries.{whole-so}
-use Rattle.exchange.specs.OrderRead.{start-read}
+use Rattle.exchange.specs.OrderRead.{saidIn, three-read}
 use Rattle.exchange.specs.Groups.{BuiltSo}
 
 -- c records more, from a built drawing on
@@ -29,26 +30,20 @@ rest-built n s second third zero ess d e at t h =
     let g = followed (readEnd at) (good d) e h in
     ([], refl, subst₂ (Built n s second third) (sym (append-nil ess)) (same-value d e (g .last)) t)
 rest-built n s second third (suc c) ess d e at t h =
-    let f = bound (readRecord pointEntries at) (λ f. placed (f .place) (addEntries d (entriesIn f)) >>= λ e. readRest c e (f .next)) e h in
-    let es = entriesIn (f .value) in
-    let g = bound (placed (f .value .place) (addEntries d es)) (λ e. readRest c e (f .value .next)) e (f .last) in
-    let new = added es t (placed-good (f .value .place) (addEntries d es) (g .value) (g .first)) in
+    let f = bound (readRecord pointEntries at) (λ f. placed (f .place) (addRead d (entriesIn f)) >>= λ e. readRest c e (f .next)) e h in
+    let es = saidIn (f .value) in
+    let g = bound (placed (f .value .place) (addRead d (entriesIn (f .value)))) (λ e. readRest c e (f .value .next)) e (f .last) in
+    let new = added es t (add-entries d (g .value) (f .value .words) (placed-good (f .value .place) (addRead d (entriesIn (f .value))) (g .value) (g .first))) in
     let r = rest-built n s second third c (snoc ess es) (g .value) e (f .value .next) new (g .last) in
     (es ∷ r .0, ap suc (r .1), subst (λ (l : List (List Entry)). Built n s second third l e) (append-assoc ess (es ∷ []) (r .0)) (r .2))
 
 -- the records of all points
 points-built : (n s : ℕ) (at : Cursor) (e : Drawing) → readPoints n s at ≡ good e → BuiltSo n s e
-unfolding readPoints
-points-built n s at e h1 =
-    let f = bound (readRecord pointEntries at) _ e h1 in
-    let tf = start-read [] (f .value) _ e (f .last) in
-    let g = bound (readRecord pointEntries (f .value .next)) _ e (tf .last) in
-    let tg = start-read (1 ∷ []) (g .value) _ e (g .last) in
-    let h = bound (readRecord pointEntries (g .value .next)) _ e (tg .last) in
-    let second = entriesIn (g .value) in
-    let third = entriesIn (h .value) in
-    let th = start-read (1 ∷ 2 ∷ []) (h .value) (readRest (n - 3) (startWith n s second third) (h .value .next)) e (h .last) in
-    let r = rest-built n s second third (n - 3) [] (startWith n s second third) e (h .value .next) (begun (tg .points) (th .points)) (th .last) in
+points-built n s at e q =
+    let t = three-read n s at e q in
+    let second = saidIn (t .g) in
+    let third = saidIn (t .h) in
+    let r = rest-built n s second third (n - 3) [] (startWith n s second third) e (t .h .next) (begun (t .points-g) (t .points-h)) (t .last) in
     record { second = second; third = third; rest = r .0; built = r .2; many = r .1 }
 
 -- the scale lies from 1 to 8

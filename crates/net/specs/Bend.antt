@@ -6,14 +6,14 @@ use native.Mathlib.Decide.{decLe}
 use Rattle.rules.specs.declared.Place.{Place}
 use Rattle.plane.specs.Apart.{Fun, up, dn, Lt, Le, fa, fy}
 use Rattle.net.specs.Side.{strict, Side, rt, lf}
-use Rattle.net.specs.Net.{Net, Kind, side, middle, flat}
+use Rattle.net.specs.Net.{Net, BendKind, side, middle, flat}
 use Rattle.net.specs.Inv.{Fits, port, within, plain, Slope, Reach, Inv}
 
 abbrev pub pt : Net → ℕ → Place
 pt g p = record { x = g .x p; y = g .y p }
 
 -- the bend of a line from p to q
-abbrev pub turn : Net → ℕ → ℕ → Kind → Place
+abbrev pub turn : Net → ℕ → ℕ → BendKind → Place
 turn g p q (side rt j) = record { x = g .x p + (g .d rt p + 1); y = g .y p + j }
 turn g p q (side lf j) = record { x = g .x p - (g .d lf p + 1); y = g .y p + j }
 turn g p q (middle i) = record { x = g .x q + i - g .h q; y = g .y q - g .h q }
@@ -23,7 +23,7 @@ turn g p q flat = pt g p
 pub data Spot : Type 0 where
   start bend end : Spot
 
-abbrev pub places : Net → ℕ → ℕ → Kind → Spot → Place
+abbrev pub places : Net → ℕ → ℕ → BendKind → Spot → Place
 places g p q κ start = pt g p
 places g p q κ bend = turn g p q κ
 places g p q κ end = pt g q
@@ -79,7 +79,7 @@ module _ {g : Net} (n : Inv g) where
   mid-between p q i b f (to lf) = back (omega arith) (omega arith)
   mid-between p q i b f high = there (omega arith) (omega arith)
 
-  kind-between : (e : ℕ) → e < g .L → (κ : Kind) → g .kind e ≡ κ → Fits strict g (g .u e) (g .v e) κ → (w : Way) →
+  kind-between : (e : ℕ) → e < g .L → (κ : BendKind) → g .kind e ≡ κ → Fits strict g (g .u e) (g .v e) κ → (w : Way) →
       Between (fun w) (pt g (g .u e)) (turn g (g .u e) (g .v e) κ) (pt g (g .v e))
   kind-between e el (side s j) q (port f b c) w = side-between s (g .u e) (g .v e) j c (n .slopes .slope s j e el q) w
   kind-between e el (middle i) q (within c b b′) w =

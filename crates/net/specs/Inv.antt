@@ -3,7 +3,7 @@ use Prim.Native.Nat.{ℕ, suc, _+_, _*_, _<_, _≤_}
 use mathlib.Core.Path.{_≡_}
 use mathlib.Core.Logic.{_≢_}
 use Rattle.net.specs.Side.{Tie, strict, Side, rt, lf, op, Cols, at}
-use Rattle.net.specs.Net.{Net, Kind, side, middle, flat, Beyond, Clear, Next}
+use Rattle.net.specs.Net.{Net, BendKind, side, middle, flat, Beyond, Clear, Next}
 
 -- 1 and 2 in one: of a boundary point w i, every other point of its column or of a column on side s lies further to side s
 pub record Points (τ : Tie) (g : Net) : Type 0 where
@@ -18,7 +18,7 @@ pub record Aside (τ : Tie) (s : Side) (g : Net) (p q : ℕ) : Type 0 where
   pub away : Beyond τ s g p q
   pub back : Beyond τ (op s) g q p
 
-pub data Fits (τ : Tie) (g : Net) (p q : ℕ) : Kind → Type 0 where
+pub data Fits (τ : Tie) (g : Net) (p q : ℕ) : BendKind → Type 0 where
   port : {s : Side} {j : ℕ} → Aside τ s g p q → 0 < j → j ≤ g .d s p → Fits τ g p q (side s j)
   within : {i : ℕ} → g .col p ≡ g .col q → Beyond τ rt g q p → Beyond τ lf g q p → Fits τ g p q (middle i)
   plain : Aside τ rt g p q → g .y p ≡ g .y q → Fits τ g p q flat

@@ -3,7 +3,7 @@ pub mod Net
 pub mod Inv
 pub mod Adds
 pub mod Walls
-pub mod Kinds
+pub mod BendKinds
 pub mod Tri
 pub mod Ports
 pub mod Slopes

@@ -6,10 +6,10 @@ use native.Mathlib.Omega.{arith}
 use Rattle.net.specs.Side.{Tie, strict, height, Side, rt, lf, op, off, Gap, Cols}
 
 -- the port: port j on side s of the earlier end; middle port i of the later end; none
-pub data Kind : Type 0 where
-  side : Side → ℕ → Kind
-  middle : ℕ → Kind
-  flat : Kind
+pub data BendKind : Type 0 where
+  side : Side → ℕ → BendKind
+  middle : ℕ → BendKind
+  flat : BendKind
 
 pub record Net : Type 0 where
   pub k : ℕ
@@ -22,7 +22,7 @@ pub record Net : Type 0 where
   pub w : ℕ → ℕ
   pub u : ℕ → ℕ
   pub v : ℕ → ℕ
-  pub kind : ℕ → Kind
+  pub kind : ℕ → BendKind
   pub d : Side → ℕ → ℕ
   pub h : ℕ → ℕ
 

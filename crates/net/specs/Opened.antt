@@ -3,7 +3,7 @@ use Prim.Native.Nat.{ℕ, _<_, _≤_}
 use mathlib.Core.Path.{_≡_, refl}
 use native.Mathlib.Omega.{arith}
 use Rattle.net.specs.Side.{strict, Side, rt, lf}
-use Rattle.net.specs.Net.{Net, Kind, side, middle, flat}
+use Rattle.net.specs.Net.{Net, BendKind, side, middle, flat}
 use Rattle.net.specs.Start.{by3, counts, three, start, Starts, core-start}
 use Rattle.net.specs.Degs.{tally, hits, deg, Degs}
 use Rattle.net.specs.Inv.{Ports, Slope, Slopes, Frees, Inv, Border}
@@ -19,7 +19,7 @@ starts = omega arith
 -- ---- the three lines by their kinds
 
 -- the kinds of the three lines
-abbrev kinds : (ℕ → Kind) → ℕ → Kind
+abbrev kinds : (ℕ → BendKind) → ℕ → BendKind
 kinds f = by3 flat (side rt 1) (side lf 1) f
 
 -- the line at a port on side s
@@ -39,7 +39,7 @@ left : (s : Side) (j : ℕ) → side lf 1 ≡ side s j → (2 ≡ num s) × (j �
 left rt j q = let z : _≡_ {A = ℕ} 0 1 = cc in absurd (omega arith)
 left lf j q = (refl, cc)
 
-module _ (f : ℕ → Kind) where
+module _ (f : ℕ → BendKind) where
   -- a line at a port is the line of that side, at port 1
   placed : (s : Side) (j e : ℕ) → e < 3 → kinds f e ≡ side s j → (e ≡ num s) × (j ≡ 1)
   placed s j = three (λ e. kinds f e ≡ side s j → (e ≡ num s) × (j ≡ 1)) (none s j) (right s j) (left s j)

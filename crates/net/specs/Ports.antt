@@ -5,25 +5,25 @@ use mathlib.Core.Logic.{_≢_}
 use native.Mathlib.Omega.{arith}
 use native.Mathlib.Decide.{decLe, decLt, ℕ-discrete}
 use Rattle.net.specs.Side.{Tie, Side, rt, lf, op, Cols, at, at-in, cols-eq, at-op, past-cols, past-not, at-inj, at-out, between, Which, same, other, which}
-use Rattle.net.specs.Net.{Net, Kind, side, middle, Beyond, beyond-not, Clear, beside, above}
+use Rattle.net.specs.Net.{Net, BendKind, side, middle, Beyond, beyond-not, Clear, beside, above}
 use Rattle.net.specs.Inv.{Points, Aside, Fits, port, within, Lines, Ports}
 use Rattle.net.specs.Adds.{Line, old, tip, rib, Adds}
 use Rattle.net.specs.Walls.{chain, keep-beyond, under-new, by-point, tip-m, tip-in, tip-col}
 
 -- what a kind with a port tells of the fit
-pub aside-of : {τ : Tie} {g : Net} {p q : ℕ} (κ : Kind) {s : Side} {j : ℕ} → κ ≡ side s j → Fits τ g p q κ → Aside τ s g p q × (0 < j) × (j ≤ g .d s p)
+pub aside-of : {τ : Tie} {g : Net} {p q : ℕ} (κ : BendKind) {s : Side} {j : ℕ} → κ ≡ side s j → Fits τ g p q κ → Aside τ s g p q × (0 < j) × (j ≤ g .d s p)
 aside-of κ e f = go (rw e at f)
   where
     go : {τ : Tie} {g : Net} {p q : ℕ} {s : Side} {j : ℕ} → Fits τ g p q (side s j) → Aside τ s g p q × (0 < j) × (j ≤ g .d s p)
     go (port f b c) = (f, b, c)
 
-pub within-of : {τ : Tie} {g : Net} {p q : ℕ} (κ : Kind) {j : ℕ} → κ ≡ middle j → Fits τ g p q κ → (g .col p ≡ g .col q) × Beyond τ rt g q p × Beyond τ lf g q p
+pub within-of : {τ : Tie} {g : Net} {p q : ℕ} (κ : BendKind) {j : ℕ} → κ ≡ middle j → Fits τ g p q κ → (g .col p ≡ g .col q) × Beyond τ rt g q p × Beyond τ lf g q p
 within-of κ e f = go (rw e at f)
   where
     go : {τ : Tie} {g : Net} {p q : ℕ} {j : ℕ} → Fits τ g p q (middle j) → (g .col p ≡ g .col q) × Beyond τ rt g q p × Beyond τ lf g q p
     go (within e b c) = (e, b, c)
 
-pub same-col : {τ : Tie} {g : Net} {p q : ℕ} (κ : Kind) {j : ℕ} → κ ≡ middle j → Fits τ g p q κ → g .col p ≡ g .col q
+pub same-col : {τ : Tie} {g : Net} {p q : ℕ} (κ : BendKind) {j : ℕ} → κ ≡ middle j → Fits τ g p q κ → g .col p ≡ g .col q
 same-col κ e f = within-of κ e f .0
 
 module _ {τ : Tie} {g g′ : Net} {l r : ℕ} (h : Points τ g) (n : Lines τ g) (a : Adds τ g g′ l r) where

@@ -7,7 +7,7 @@ use native.Mathlib.Decide.{decLt, ℕ-discrete}
 use Rattle.rules.specs.declared.Place.{Place}
 use Rattle.plane.specs.Only.{only-flip}
 use Rattle.net.specs.Side.{strict, Side, rt, lf, op, Which, which, same, other}
-use Rattle.net.specs.Net.{Net, Kind, side, middle, flat, Beyond, beyond-not, Clear, beside, above}
+use Rattle.net.specs.Net.{Net, BendKind, side, middle, flat, Beyond, beyond-not, Clear, beside, above}
 use Rattle.net.specs.Inv.{Aside, Fits, port, within, plain, Inv}
 use Rattle.net.specs.Ports.{aside-of}
 use Rattle.net.specs.Bend.{pt, Spot, spot}
@@ -34,13 +34,13 @@ flip-half : (z : Place) (S T : Spot → Place) → OnlyHalf z S T → OnlyHalf z
 flip-half z S T h i j = only-flip _ _ _ _ _ (h j i)
 
 module _ {g : Net} (n : Inv g) where
-  start-role : (e : ℕ) → e < g .L → (κ : Kind) → g .kind e ≡ κ → Fits strict g (g .u e) (g .v e) κ → Role g (g .u e) e
+  start-role : (e : ℕ) → e < g .L → (κ : BendKind) → g .kind e ≡ κ → Fits strict g (g .u e) (g .v e) κ → Role g (g .u e) e
   start-role e el (side s j) q (port f b c) = out s j q refl (rw q (Roles.port-at g (g .u e) (g .v e) s j b c (n .slopes .slope s j e el q)))
   start-role e el (middle j) q (within f b c) =
       top j q refl (rw q (Roles.top-at g (g .u e) (g .v e) j (n .core .points .frame (g .v e) (n .core .lines .ends e el .1)) (n .slopes .reach j e el q)))
   start-role e el flat q (plain f c) = free rt (based q (inl refl)) (rw q (Roles.flat-start g (g .u e) (g .v e) f c))
 
-  end-role : (e : ℕ) → e < g .L → (κ : Kind) → g .kind e ≡ κ → Fits strict g (g .u e) (g .v e) κ → Role g (g .v e) e
+  end-role : (e : ℕ) → e < g .L → (κ : BendKind) → g .kind e ≡ κ → Fits strict g (g .u e) (g .v e) κ → Role g (g .v e) e
   end-role e el (side rt j) q (port f b c) = free lf (landed j q refl) (rw q (Roles.free-at g (g .u e) (g .v e) rt j c (n .slopes .slope rt j e el q)))
   end-role e el (side lf j) q (port f b c) = free rt (landed j q refl) (rw q (Roles.free-at g (g .u e) (g .v e) lf j c (n .slopes .slope lf j e el q)))
   end-role e el (middle j) q (within f b c) =

@@ -5,11 +5,11 @@ use mathlib.Core.Logic.{_≢_}
 use native.Mathlib.Omega.{arith}
 use native.Mathlib.Decide.{decLe, decLt, ℕ-discrete}
 use Rattle.net.specs.Side.{Tie, Side, rt, lf, op, Cols, Past, at, at-in, cols-eq, cols-op, past-not, cols-past, Which, same, other, which}
-use Rattle.net.specs.Net.{Net, Kind, side, middle, flat, Beyond, beyond-trans, beyond-not, Clear, beside, above, clear-swap}
+use Rattle.net.specs.Net.{Net, BendKind, side, middle, flat, Beyond, beyond-trans, beyond-not, Clear, beside, above, clear-swap}
 use Rattle.net.specs.Inv.{Points, Aside, Fits, port, within, plain, Lines}
 use Rattle.net.specs.Adds.{Line, old, tip, rib, Adds}
 use Rattle.net.specs.Walls.{keep-beyond, beyond-new, under-new, wall, past-new, upto-new, by-point, tip-m, tip-in, tip-col}
-use Rattle.net.specs.Kinds.{keep-cols, fits′, ends′}
+use Rattle.net.specs.BendKinds.{keep-cols, fits′, ends′}
 
 -- p and q are the ends of a line, in one order or the other: what 3 and 6 say of them
 record Ends (τ : Tie) (g : Net) (p q : ℕ) : Type 0 where
@@ -34,12 +34,12 @@ aside-back rt lf f c = f .back
 aside-back lf rt f c = f .back
 aside-back lf lf f c = absurd (omega (arith, f .cols))
 
-fits-slant : {τ : Tie} {g : Net} {p q : ℕ} (κ : Kind) → Fits τ g p q κ → (s : Side) → Past s (g .col p) (g .col q) → Beyond τ s g p q
+fits-slant : {τ : Tie} {g : Net} {p q : ℕ} (κ : BendKind) → Fits τ g p q κ → (s : Side) → Past s (g .col p) (g .col q) → Beyond τ s g p q
 fits-slant (side t j) (port f b c) s k = aside-slant t s f k
 fits-slant (middle i) (within e b b′) s k = absurd (past-not s k (cols-eq s (sym e)))
 fits-slant flat (plain f c) s k = aside-slant rt s f k
 
-fits-back : {τ : Tie} {g : Net} {p q : ℕ} (κ : Kind) → Fits τ g p q κ → (s : Side) → Past s (g .col q) (g .col p) → Beyond τ s g q p
+fits-back : {τ : Tie} {g : Net} {p q : ℕ} (κ : BendKind) → Fits τ g p q κ → (s : Side) → Past s (g .col q) (g .col p) → Beyond τ s g q p
 fits-back (side t j) (port f b c) s k = aside-back t s f k
 fits-back (middle i) (within e b b′) s k = absurd (past-not s k (cols-eq s e))
 fits-back flat (plain f c) s k = aside-back rt s f k

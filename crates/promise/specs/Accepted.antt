@@ -9,12 +9,15 @@ use lib.Seq.{getD-drop}
 use lib.Dec.{leb, ltb, eqb}
 use borrow.Author.Tests.{leb-false, ltb-false, eqb-true, eq-eqb, ne-eqb, le-ltb, lt-leb, not-false}
 use Rattle.rules.specs.declared.Entry.{Entry}
+use Rattle.rules.specs.declared.Reading.{Reading}
+use Rattle.rules.specs.declared.Reading.the-variants.{Given}
 use Rattle.rules.specs.declared.Refusal.the-variants.{Finished, FewEntries, NotPlaced, Covered, NoRun, NotWhole, NoReach}
 use Rattle.rules.specs.Basics.{elem}
 use Rattle.rules.specs.Refusals.{Result, good, refused, refuseIf}
 use Rattle.rules.specs.Results.{never-good, same-value, followed, both-pass, test-false, tested, then-to, goes-to}
 use Rattle.rules.specs.Lengths.{length-points}
-use Rattle.rules.specs.Entries.{entryOf}
+use Rattle.rules.specs.Entries.{pointsRead}
+use Rattle.rules.specs.Readings.{entryOf, points-given, tests-of, judge-of, adding, add-entries}
 use Rattle.rules.specs.Points.{Drawing, w, m}
 use Rattle.rules.specs.Adding.{lOf, rOf, inner, rowHeight, spread, newX, newY, allReach, pointsOf, entryTests, runTests, callTests, judge, placedNew, addEntries, add}
 use Rattle.rules.specs.Calls.{left, after}
@@ -48,16 +51,15 @@ pub record Passed (d : Drawing) (es : List Entry) (l r : ℕ) : Type 0 where
   pub run : IsRun d es l r
   pub whole : suc (d .k) ≡ d .n → length es ≡ m d
 
--- 21, 5, 8 and 9 tell this, where l is the index of the first entry; 6 and 7 tell nothing more
-pub tests-passed : (d : Drawing) (es : List Entry) → callTests d (pointsOf es) ≡ good tt → Passed d es (lOf d (pointsOf es)) (rOf d (pointsOf es))
-unfolding callTests
-tests-passed d es h =
+-- 21, 5, 8 and 9 tell this of entries that name these points, where l is the index of the first; 13, 6 and 7 tell nothing more
+pub tests-passed : (d : Drawing) (rs : List Reading) (es : List Entry) → pointsRead rs ≡ pointsOf es → callTests d rs ≡ good tt → Passed d es (lOf d (pointsOf es)) (rOf d (pointsOf es))
+tests-passed d rs es same h =
     let run = pointsOf es in
     let l = lOf d run in
     let size = length-points es in
-    let h21 = tested (leb (d .n) (d .k)) Finished 0 _ tt h in
+    let h21 = tested (leb (d .n) (d .k)) Finished 0 _ tt (sym (tests-of d rs run same) ∙ h) in
     let h5 = tested (ltb (length run) 2) FewEntries 0 _ tt (h21 .last) in
-    let h6 = both-pass (entryTests d 0 run) _ (h5 .last) in
+    let h6 = both-pass (entryTests d 0 rs) _ (h5 .last) in
     let h8 = both-pass (runTests 0 (drop l (d .boundary)) run) _ (h6 .1) in
     let some : 2 ≤ length run = ltb-false (length run) 2 (h5 .passed) in
     let f = run-front 0 (drop l (d .boundary)) run (h8 .0) in
@@ -95,11 +97,11 @@ pub record Accepted (d : Drawing) (es : List Entry) (e : Drawing) : Type 0 where
 
 -- a call that gave a drawing was accepted so
 pub accepted : (d e : Drawing) (es : List Entry) → addEntries d es ≡ good e → Accepted d es e
-unfolding addEntries judge allReached placedNew next
+unfolding allReached placedNew next
 accepted d e es h =
-    let t = followed (judge d (pointsOf es)) (good (placedNew d es (pointsOf es))) e h in
-    let j = both-pass (callTests d (pointsOf es)) _ (t .first) in
-    let p = tests-passed d es (j .0) in
+    let t = followed (judge d (map Given es)) (good (placedNew d es (pointsOf es))) e (sym (adding d es) ∙ h) in
+    let j = both-pass (callTests d (map Given es)) _ (sym (judge-of d (map Given es) (pointsOf es) (points-given es)) ∙ t .first) in
+    let p = tests-passed d (map Given es) es (points-given es) (j .0) in
     record {
       l = lOf d (pointsOf es);
       r = rOf d (pointsOf es);
@@ -120,7 +122,7 @@ after-keeps P step d h [] = h
 after-keeps P step d h (call ∷ calls) = after-keeps P step (left d (add d call)) (go (add d call) refl) calls
   where
     go : (r : Result Drawing) → add d call ≡ r → P (left d r)
-    go (good e) q = step d e (map entryOf call) h q
+    go (good e) q = step d e (map entryOf call) h (add-entries d e call q)
     go (refused r p) q = h
 
 -- ---- read backwards: a run whose tests pass is accepted
@@ -139,14 +141,15 @@ record Stands (d : Drawing) (p : ℕ) : Type 0 where
   high : p ≤ d .k
   on : elem p (d .boundary) ≡ true
 
--- 6 and 7 pass where every entry stands
-entries-good : (d : Drawing) (i : ℕ) (run : List ℕ) → ((j : ℕ) → j < length run → Stands d (getD run j 0)) → entryTests d i run ≡ good tt
+-- 6 and 7 pass where every entry stands, and 13 where none is marked both
+entries-good : (d : Drawing) (i : ℕ) (es : List Entry) → ((j : ℕ) → j < length (pointsOf es) → Stands d (getD (pointsOf es) j 0)) → entryTests d i (map Given es) ≡ good tt
 entries-good d i [] h = refl
-entries-good d i (p ∷ run) h =
+entries-good d i (e ∷ es) h =
+    let p = e .point in
     let z = h 0 (omega arith) in
     goes-to (eqb p 0 || ltb (d .k) p) NotPlaced i _ _ (rw (ne-eqb p 0 (omega arith), le-ltb (d .k) p (z .high)))
     (goes-to (not (elem p (d .boundary))) Covered i _ _ (ap not (z .on))
-    (entries-good d (suc i) run (λ j c. h (suc j) (omega arith))))
+    (entries-good d (suc i) es (λ j c. h (suc j) (omega arith))))
 
 -- an element of a list stands in it
 elem-at : (l : List ℕ) (i : ℕ) → i < length l → elem (getD l i 0) l ≡ true
@@ -178,25 +181,28 @@ module _ (d : Drawing) (es : List Entry) (low : (i : ℕ) → i < m d → (0 < w
       (λ j b. t .point j (omega (arith, length-points es)) ∙ sym (getD-drop l (d .boundary) j 0))
 
   -- every test passes
-  judge-good : IsRun d es (lOf d (pointsOf es)) (rOf d (pointsOf es)) → allReached d es (lOf d (pointsOf es)) (rOf d (pointsOf es)) ≡ true → judge d (pointsOf es) ≡ good tt
-  unfolding judge callTests allReached
+  judge-good : IsRun d es (lOf d (pointsOf es)) (rOf d (pointsOf es)) → allReached d es (lOf d (pointsOf es)) (rOf d (pointsOf es)) ≡ true → judge d (map Given es) ≡ good tt
+  unfolding allReached
   judge-good t reach =
       let run = pointsOf es in
-      then-to (callTests d run) _ _
-      (goes-to (leb (d .n) (d .k)) Finished 0 _ _ (lt-leb (d .n) (d .k) room)
+      let rs = map Given es in
+      judge-of d rs run (points-given es) ∙
+      then-to (callTests d rs) _ _
+      (tests-of d rs run (points-given es) ∙
+      goes-to (leb (d .n) (d .k)) Finished 0 _ _ (lt-leb (d .n) (d .k) room)
       (goes-to (ltb (length run) 2) FewEntries 0 _ _ (le-ltb (length run) 2 (omega (arith, length-points es)))
-      (then-to (entryTests d 0 run) _ _ (entries-good d 0 run (stands t))
+      (then-to (entryTests d 0 rs) _ _ (entries-good d 0 es (stands t))
       (then-to (runTests 0 (drop (lOf d run) (d .boundary)) run) _ _ (along t)
       (ap (λ b. refuseIf b NotWhole 0) (whole-good (d .k) (d .n) (length run) (m d) (λ e. length-points es ∙ whole e)))))))
       (ap (λ b. refuseIf (not b) NoReach 0) reach)
 
   -- the call is accepted, where its first entry stands at l and nowhere before
   pub accepts : (l r : ℕ) → IsRun d es l r → lOf d (pointsOf es) ≡ l → allReached d es l r ≡ true → addEntries d es ≡ good (next d es l r)
-  unfolding addEntries placedNew next
+  unfolding placedNew next
   accepts l r t el reach = subst₂ Accepts el (omega (arith, length-points es)) at-own t reach
     where
       Accepts : ℕ → ℕ → Type 0
       Accepts l r = IsRun d es l r → allReached d es l r ≡ true → addEntries d es ≡ good (next d es l r)
 
       at-own : Accepts (lOf d (pointsOf es)) (rOf d (pointsOf es))
-      at-own t reach = then-to (judge d (pointsOf es)) _ _ (judge-good t reach) refl
+      at-own t reach = adding d es ∙ then-to (judge d (map Given es)) _ _ (judge-good t reach) refl

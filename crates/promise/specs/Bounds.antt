@@ -2,10 +2,10 @@
 -- That no subtraction of the rules truncates is in Exact, and for steps 3 and 4 also in Places; columns are in Moved and Columns.
 use Prim.Native.Nat.{ℕ, suc, pred, _+_, _*_, _<_, _≤_}
 use mathlib.Core.Path.{_≡_}
-use mathlib.Core.Bool.{Bool}
 use mathlib.Core.List.{List}
 use native.Mathlib.Omega.{arith}
 use lib.ListN.{length}
+use Rattle.rules.specs.declared.Kind.{Kind}
 use Rattle.rules.specs.declared.Entry.{Entry}
 use Rattle.rules.specs.Refusals.{good}
 use Rattle.rules.specs.Points.{Drawing, xOf, yOf, m, W, lineAt, start}
@@ -35,10 +35,10 @@ pub record Standing (d : Drawing) : Type 0 where
   pub sound : Sound d
   pub ranged : Ranged d
 
-ranged-start : (n s : ℕ) (c1 c2 c3 : Bool) → 3 ≤ n → n ≤ 1024 → Ranged (start n s c1 c2 c3)
+ranged-start : (n s : ℕ) (c1 c2 c3 : Kind) → 3 ≤ n → n ≤ 1024 → Ranged (start n s c1 c2 c3)
 ranged-start n s c1 c2 c3 low high = record { low = low; high = high; room = low; three = omega arith; border = omega arith }
 
-pub standing-start : (n s : ℕ) (c1 c2 c3 : Bool) → 3 ≤ n → n ≤ 1024 → Standing (start n s c1 c2 c3)
+pub standing-start : (n s : ℕ) (c1 c2 c3 : Kind) → 3 ≤ n → n ≤ 1024 → Standing (start n s c1 c2 c3)
 standing-start n s c1 c2 c3 low high = record { sound = sound-start n s c1 c2 c3; ranged = ranged-start n s c1 c2 c3 low high }
 
 n-next : (d : Drawing) (es : List Entry) (l r : ℕ) → (next d es l r .n ≡ d .n) × (next d es l r .k ≡ suc (d .k))

@@ -8,6 +8,7 @@ use lib.ListN.{length, getD}
 use lib.Dec.{eqb, eqb·suc-suc}
 use native.Mathlib.Omega.{arith}
 use borrow.Author.Tests.{eqb-true}
+use Rattle.rules.specs.declared.Kind.the-variants.{Guide}
 use Rattle.rules.specs.declared.Bend.the-variants.{Straight}
 use Rattle.rules.specs.Basics.{keep}
 use Rattle.rules.specs.Points.{Drawing, lineAt}
@@ -73,4 +74,4 @@ module _ (d : Drawing) (s : Sound d) (p : ℕ) (p0 : 0 < p) where
   -- Both count the same lines.
   pub degree-is : deg (netOf d) (pred p) ≡ degree d p
   unfolding deg
-  degree-is = tally-keep (endsAt p) (record { later = 0; earlier = 0; bend = Straight; cut = false }) (hits (netOf d) (pred p)) (d .lines) hits-once
+  degree-is = tally-keep (endsAt p) (record { later = 0; earlier = 0; bend = Straight; kind = Guide }) (hits (netOf d) (pred p)) (d .lines) hits-once

@@ -8,6 +8,7 @@ use mathlib.Core.List.{List, [], _∷_, map}
 use native.Mathlib.Omega.{arith}
 use lib.ListN.{length, getD, take, drop, length-map, length-drop}
 use lib.Seq.{length-take-le, getD-take, getD-drop}
+use Rattle.rules.specs.declared.Kind.the-variants.{Plain}
 use Rattle.rules.specs.declared.Entry.{Entry}
 use Rattle.rules.specs.declared.Bend.{Bend}
 use Rattle.rules.specs.declared.Bend.the-variants.{Left, Right, Middle, Straight}
@@ -18,7 +19,7 @@ use Rattle.net.specs.Side.{Side, rt, lf}
 use Rattle.net.specs.Net.{side, middle, flat}
 use Rattle.net.specs.Ports.{aside-of}
 use Rattle.promise.specs.Promise.{IsLine}
-use Rattle.promise.specs.Nets.{kindOf, netOf}
+use Rattle.promise.specs.Nets.{bendKind, netOf}
 use Rattle.promise.specs.Sound.{Sound}
 use Rattle.promise.specs.Next.{IsRun}
 use Rattle.promise.specs.Places.{exact₃, exact₄, even}
@@ -75,25 +76,25 @@ pub record Exact (d : Drawing) : Type 0 where
 
 module _ (d : Drawing) (s : Sound d) where
   -- a port on a side is one of those that its owner has there
-  on-side : (t : Side) (e j : ℕ) → IsLine d e → kindOf (lineAt d e .bend) ≡ side t j → (0 < j) × (j ≤ netOf d .d t (netOf d .u e))
+  on-side : (t : Side) (e j : ℕ) → IsLine d e → bendKind (lineAt d e .bend) ≡ side t j → (0 < j) × (j ≤ netOf d .d t (netOf d .u e))
   on-side t e j el q = let f = aside-of (netOf d .kind e) q (s .inv .core .lines .fits e el) in (f .1, f .2)
 
   -- right ports
   right-ports : RightPorts d
-  right-ports e j el q = on-side rt e j el (ap kindOf q)
+  right-ports e j el q = on-side rt e j el (ap bendKind q)
 
   -- left ports: the later end lies beyond the port and no further left than 0
   left-ports : LeftPorts d
   left-ports e j el q =
-      let i = on-side lf e j el (ap kindOf q) in
-      let f = s .inv .slopes .slope lf j e el (ap kindOf q) in
+      let i = on-side lf e j el (ap bendKind q) in
+      let f = s .inv .slopes .slope lf j e el (ap bendKind q) in
       (i .0, omega (arith, i .1), omega (arith, f .rise, f .run))
 
   -- middle ports: the earlier end lies below the port and no lower than 0, and no y is more than its x
   middle-ports : MiddlePorts d
   middle-ports e i el q =
       let v = lineAt d e .later in
-      let f = s .inv .slopes .reach i e el (ap kindOf q) in
+      let f = s .inv .slopes .reach i e el (ap bendKind q) in
       let b = s .inv .core .points .frame (pred v) (s .inv .core .lines .ends e el .1) in
       let h : hOf d v ≤ yOf d v = omega (arith, f .to-a, f .to-b) in
       (f .first, omega (arith, f .last), omega (arith, b), h)
@@ -114,20 +115,20 @@ module _ (d : Drawing) (s : Sound d) where
       (ap (netOf d .y) (g .0) ∙ o .1, ap (netOf d .y) (g .1) ∙ o .2, ap (netOf d .x) (g .0) ∙ o .0)
 
   -- a port on a side would lift it
-  not-side : (t : Side) (j : ℕ) → kindOf (lineAt d 0 .bend) ≡ side t j → ⊥
+  not-side : (t : Side) (j : ℕ) → bendKind (lineAt d 0 .bend) ≡ side t j → ⊥
   not-side t j q =
       let el = first-line .0 in
       omega (arith, on-side t 0 j el q .0, s .inv .slopes .slope t j 0 el q .rise, ground-y)
 
   -- a middle port would lie left of point 1
-  not-middle : (i : ℕ) → kindOf (lineAt d 0 .bend) ≡ middle i → ⊥
+  not-middle : (i : ℕ) → bendKind (lineAt d 0 .bend) ≡ middle i → ⊥
   not-middle i q = let f = s .inv .slopes .reach i 0 (first-line .0) q in omega (arith, f .first, f .to-a, ground-y)
 
   -- so it has no port
   none-first : (b : Bend) → lineAt d 0 .bend ≡ b → ported b ≡ false
-  none-first (Left j) q = absurd (not-side lf j (ap kindOf q))
-  none-first (Right j) q = absurd (not-side rt j (ap kindOf q))
-  none-first (Middle i) q = absurd (not-middle i (ap kindOf q))
+  none-first (Left j) q = absurd (not-side lf j (ap bendKind q))
+  none-first (Right j) q = absurd (not-side rt j (ap bendKind q))
+  none-first (Middle i) q = absurd (not-middle i (ap bendKind q))
   none-first Straight q = refl
 
   -- and no other line is without one
@@ -135,7 +136,7 @@ module _ (d : Drawing) (s : Sound d) where
   no-port e el =
       (λ q. s .inv .frees .base e el (straight (lineAt d e .bend) q), λ q. ap (λ (e : ℕ). hasPort (lineAt d e)) q ∙ none-first (lineAt d 0 .bend) refl)
     where
-      straight : (b : Bend) → ported b ≡ false → kindOf b ≡ flat
+      straight : (b : Bend) → ported b ≡ false → bendKind b ≡ flat
       straight (Left j) q = absurd (true≢false q)
       straight (Right j) q = absurd (true≢false q)
       straight (Middle i) q = absurd (true≢false q)
@@ -148,11 +149,11 @@ even-difference : (a b : ℕ) → a ≤ b → (a + b) % 2 ≡ 0 → (b - a) % 2 
 even-difference a b h e = omega arith
 
 -- an entry for each point
-abbrev cutTo : ℕ → Entry
-cutTo p = record { point = p; cut = true }
+abbrev plainTo : ℕ → Entry
+plainTo p = record { point = p; kind = Plain }
 
 -- they name those points
-points-back : (ps : List ℕ) → pointsOf (map cutTo ps) ≡ ps
+points-back : (ps : List ℕ) → pointsOf (map plainTo ps) ≡ ps
 points-back [] = refl
 points-back (p ∷ ps) = ap (λ (l : List ℕ). p ∷ l) (points-back ps)
 
@@ -162,7 +163,7 @@ module _ (d : Drawing) (l r : ℕ) (lr : l < r) (rm : r < m d) where
   run = take (suc r - l) (drop l (d .boundary))
 
   abbrev entries : List Entry
-  entries = map cutTo run
+  entries = map plainTo run
 
   -- there are r - l + 1
   run-length : length run ≡ suc r - l
@@ -174,7 +175,7 @@ module _ (d : Drawing) (l r : ℕ) (lr : l < r) (rm : r < m d) where
       record {
         lr = lr;
         rm = rm;
-        size = omega (arith, length-map run cutTo, run-length);
+        size = omega (arith, length-map run plainTo, run-length);
         point = λ i b.
             ap (λ (ps : List ℕ). getD ps i 0) (points-back run) ∙ getD-take (suc r - l) (drop l (d .boundary)) i 0 (omega arith) ∙ getD-drop l (d .boundary) i 0;
       }

@@ -2,11 +2,12 @@
 use Prim.Native.Nat.{ℕ, pred, _<_, _≤_}
 use mathlib.Core.Path.{_≡_, refl, ap, sym, _∙_, subst}
 use mathlib.Core.Logic.{_≢_, _⊎_, inl, inr}
-use mathlib.Core.Bool.{Bool, true}
+use mathlib.Core.Bool.{true}
 use lib.ListN.{length}
 use lib.Dec.{eqb}
 use native.Mathlib.Omega.{arith}
 use borrow.Author.Tests.{eq-eqb, ne-eqb, eqb-true}
+use Rattle.rules.specs.declared.Kind.{Kind}
 use Rattle.rules.specs.declared.Bend.{Bend}
 use Rattle.rules.specs.declared.Bend.the-variants.{Left, Right, Middle, Straight}
 use Rattle.rules.specs.declared.Line.{Line}
@@ -19,7 +20,7 @@ use Rattle.rules.specs.Bools.{both, either, is-false}
 use Rattle.net.specs.Ports.{aside-of}
 use Rattle.net.specs.Bend.{turn, spot, bend}
 use Rattle.net.specs.Aims.{Leaves, turning, straight, Heads, Aimed, aim-start, aim-end}
-use Rattle.promise.specs.Nets.{netOf, kindOf}
+use Rattle.promise.specs.Nets.{netOf, bendKind}
 use Rattle.promise.specs.Sound.{Sound}
 use Rattle.promise.specs.Spots.{turn-port}
 
@@ -56,13 +57,13 @@ Far d v (Right j) = 0 < j
 Far d v (Middle i) = (0 < hOf d v) × (hOf d v ≤ yOf d v)
 Far d v Straight = Unit {0}
 
-module _ (d : Drawing) (v u : ℕ) (c : Bool) (apart : u ≢ v) where
+module _ (d : Drawing) (v u : ℕ) (c : Kind) (apart : u ≢ v) where
   abbrev line : Bend → Line
-  line b = record { later = v; earlier = u; bend = b; cut = c }
+  line b = record { later = v; earlier = u; bend = b; kind = c }
 
   -- the net's bend
   abbrev bent : Bend → Place
-  bent b = turn (netOf d) (pred u) (pred v) (kindOf b)
+  bent b = turn (netOf d) (pred u) (pred v) (bendKind b)
 
   -- at the earlier end
   start-to : (b : Bend) {t : Place} → Far d v b → Leaves (placeOf d u) (bent b) (placeOf d v) t → t ≡ towards d u (line b)
@@ -86,9 +87,9 @@ module _ (d : Drawing) (s : Sound d) (e : ℕ) (el : e < length (d .lines)) wher
   far = go (lineAt d e .bend) refl
     where
       go : (b : Bend) → lineAt d e .bend ≡ b → Far d (lineAt d e .later) b
-      go (Left j) q = aside-of (kindOf (lineAt d e .bend)) (ap kindOf q) (s .inv .core .lines .fits e el) .1
-      go (Right j) q = aside-of (kindOf (lineAt d e .bend)) (ap kindOf q) (s .inv .core .lines .fits e el) .1
-      go (Middle i) q = let r = s .inv .slopes .reach i e el (ap kindOf q) in (omega arith, omega arith)
+      go (Left j) q = aside-of (bendKind (lineAt d e .bend)) (ap bendKind q) (s .inv .core .lines .fits e el) .1
+      go (Right j) q = aside-of (bendKind (lineAt d e .bend)) (ap bendKind q) (s .inv .core .lines .fits e el) .1
+      go (Middle i) q = let r = s .inv .slopes .reach i e el (ap bendKind q) in (omega arith, omega arith)
       go Straight q = tt
 
   -- A line has two different ends.
@@ -123,12 +124,12 @@ leaving d s p e el h = by-end (either _ _ h)
     at-start : Leaving d (l .earlier) e
     at-start =
         let a = aim-start (s .inv) e el in
-        record { other = _; aimed = a; there = start-to d (l .later) (l .earlier) (l .cut) (two-ends d s e el) (l .bend) (far d s e el) (a .leaves) }
+        record { other = _; aimed = a; there = start-to d (l .later) (l .earlier) (l .kind) (two-ends d s e el) (l .bend) (far d s e el) (a .leaves) }
 
     at-end : Leaving d (l .later) e
     at-end =
         let a = aim-end (s .inv) e el in
-        record { other = _; aimed = a; there = end-to d (l .later) (l .earlier) (l .cut) (two-ends d s e el) (l .bend) (far d s e el) (a .leaves) }
+        record { other = _; aimed = a; there = end-to d (l .later) (l .earlier) (l .kind) (two-ends d s e el) (l .bend) (far d s e el) (a .leaves) }
 
     by-end : (eqb (l .later) p ≡ true) ⊎ (eqb (l .earlier) p ≡ true) → Leaving d p e
     by-end (inl q) = subst (λ z. Leaving d z e) (eqb-true _ _ q) at-end

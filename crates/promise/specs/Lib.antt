@@ -27,4 +27,5 @@ pub mod Angled
 pub mod Planar
 pub mod Exact
 pub mod Theorem
+pub mod Kinds
 pub mod Bounds

@@ -6,6 +6,7 @@ use mathlib.Core.List.{List, _++_}
 use native.Mathlib.Omega.{arith}
 use native.Mathlib.Decide.{ℕ-discrete}
 use lib.ListN.{length, getD}
+use Rattle.rules.specs.declared.Kind.the-variants.{Guide}
 use Rattle.rules.specs.declared.Entry.{Entry}
 use Rattle.rules.specs.declared.Line.{Line as Drawn}
 use Rattle.rules.specs.declared.Bend.{Bend}
@@ -20,7 +21,7 @@ use Rattle.net.specs.Adds.{Line, old, tip, rib}
 use Rattle.net.specs.Amounts.{Amounts}
 use Rattle.net.specs.Row.{Hits, First, portAt}
 use Rattle.net.specs.Row as Row
-use Rattle.promise.specs.Nets.{netOf, kindOf}
+use Rattle.promise.specs.Nets.{netOf, bendKind}
 use Rattle.promise.specs.Sound.{Sound, Ended}
 use Rattle.promise.specs.Next.{IsRun, next}
 use Rattle.promise.specs.Moved.{length-spread}
@@ -50,7 +51,7 @@ Test d es l r i p =
 
 -- what `lineAt` gives where there is no line
 abbrev noLine : Drawn
-noLine = record { later = 0; earlier = 0; bend = Straight; cut = false }
+noLine = record { later = 0; earlier = 0; bend = Straight; kind = Guide }
 
 -- ---- what the new drawing's lists hold
 
@@ -129,15 +130,15 @@ module _ (d : Drawing) (es : List Entry) (l r : ℕ) (s : Sound d) (q : IsRun d 
         | yes z ↦
             let c : l + i ≡ l = omega arith in
             tip rt (omega arith) (ap pred (t .earlier) ∙ ap (λ (n : ℕ). pred (w d n)) c) (ap pred (t .later))
-            (ap kindOf (t .bend ∙ ap (bendAt d es l r) z ∙ bend-l))
+            (ap bendKind (t .bend ∙ ap (bendAt d es l r) z ∙ bend-l))
         | no n ↦ elim (ℕ-discrete i (r - l)) [
           | yes z ↦
               let c : l + i ≡ r = omega (arith, q .lr) in
               tip lf (omega arith) (ap pred (t .earlier) ∙ ap (λ (n : ℕ). pred (w d n)) c) (ap pred (t .later))
-              (ap kindOf (t .bend ∙ ap (bendAt d es l r) z ∙ bend-r))
+              (ap bendKind (t .bend ∙ ap (bendAt d es l r) z ∙ bend-r))
           | no n′ ↦
               rib (l + i) (omega arith) (omega arith) (omega arith) (ap pred (t .earlier)) (ap pred (t .later))
-              (ap kindOf (t .bend ∙ bend-m i (omega arith) (omega arith)))
+              (ap bendKind (t .bend ∙ bend-m i (omega arith) (omega arith)))
         ]
       ]
 
@@ -146,7 +147,7 @@ module _ (d : Drawing) (es : List Entry) (l r : ℕ) (s : Sound d) (q : IsRun d 
   line e h = go (seen e h)
     where
       go : Seen e → Line (netOf d) (netOf (next d es l r)) l r (port d es l r) e
-      go (stays b t) = old b (ap (λ (a : Drawn). pred (a .earlier)) t) (ap (λ (a : Drawn). pred (a .later)) t) (ap (λ (a : Drawn). kindOf (a .bend)) t)
+      go (stays b t) = old b (ap (λ (a : Drawn). pred (a .earlier)) t) (ap (λ (a : Drawn). pred (a .later)) t) (ap (λ (a : Drawn). bendKind (a .bend)) t)
       go (comes i ir sum t) = new-line e i ir sum t
 
   -- the ends of the lines are points

@@ -7,13 +7,13 @@ use Rattle.rules.specs.Points.{Drawing, xOf, yOf, dlOf, drOf, hOf, ownerOf, m, 
 use Rattle.rules.specs.Points as Points
 use Rattle.rules.specs.Moving.{column}
 use Rattle.net.specs.Side.{Side, rt, lf}
-use Rattle.net.specs.Net.{Net, Kind, side, middle, flat}
+use Rattle.net.specs.Net.{Net, BendKind, side, middle, flat}
 
-abbrev pub kindOf : Bend → Kind
-kindOf (Left j) = side lf j
-kindOf (Right j) = side rt j
-kindOf (Middle i) = middle i
-kindOf Straight = flat
+abbrev pub bendKind : Bend → BendKind
+bendKind (Left j) = side lf j
+bendKind (Right j) = side rt j
+bendKind (Middle i) = middle i
+bendKind Straight = flat
 
 -- the ports of point suc p on a side
 abbrev pub portsOf : Drawing → Side → ℕ → ℕ
@@ -33,7 +33,7 @@ netOf d =
       w = λ i. pred (Points.w d i);
       u = λ e. pred (lineAt d e .earlier);
       v = λ e. pred (lineAt d e .later);
-      kind = λ e. kindOf (lineAt d e .bend);
+      kind = λ e. bendKind (lineAt d e .bend);
       d = portsOf d;
       h = λ p. hOf d (suc p);
     }

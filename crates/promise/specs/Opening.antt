@@ -1,8 +1,8 @@
 -- The drawing as opened is sound.
 use Prim.Native.Nat.{ℕ, zero, suc}
 use mathlib.Core.Path.{_≡_, refl, sym, subst}
-use mathlib.Core.Bool.{Bool}
 use native.Mathlib.Omega.{arith}
+use Rattle.rules.specs.declared.Kind.{Kind}
 use Rattle.rules.specs.Points.{Drawing, ownerOf, start}
 use Rattle.net.specs.Side.{Side, rt, lf}
 use Rattle.net.specs.Start.{by3-own, three}
@@ -13,7 +13,7 @@ use Rattle.net.specs.Opened.{opened, inv-opened, border-opened, degs-opened}
 use Rattle.promise.specs.Nets.{netOf, portsOf}
 use Rattle.promise.specs.Sound.{Sized, Root, Rooted, Ended, Sound}
 
-module _ (n s : ℕ) (c1 c2 c3 : Bool) where
+module _ (n s : ℕ) (c1 c2 c3 : Kind) where
   -- the drawing as opened
   abbrev d : Drawing
   d = start n s c1 c2 c3
@@ -72,7 +72,7 @@ module _ (n s : ℕ) (c1 c2 c3 : Bool) where
   ended : Ended d
   ended = record { ends = three _ (omega arith) (omega arith) (omega arith) }
 
-  -- the drawing as opened is sound, for any n and s, each line cut or guide
+  -- the drawing as opened is sound, for any n and s, and each line of any kind
   pub sound-start : Sound (start n s c1 c2 c3)
   sound-start =
       record {

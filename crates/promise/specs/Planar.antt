@@ -7,6 +7,7 @@ use mathlib.Core.List.{[], _∷_}
 use native.Mathlib.Omega.{arith}
 use lib.Dec.{eqb}
 use borrow.Author.Tests.{eqb-true, eqb-false}
+use Rattle.rules.specs.declared.Kind.{Kind}
 use Rattle.rules.specs.declared.Place.{Place}
 use Rattle.rules.specs.declared.Line.{Line}
 use Rattle.rules.specs.declared.Bend.{Bend}
@@ -33,7 +34,7 @@ data Lies (S : Spot → Place) : Place → Place → Type 0 where
   against : (h : Half) → Lies S (S (tail h)) (S (head h))
 
 -- a test that holds of each piece of a line, in either direction, holds of all pieces that the rules list
-all-pieces : (d : Drawing) (q p : ℕ) (b : Bend) (c : Bool) → let l : Line = record { later = q; earlier = p; bend = b; cut = c } in
+all-pieces : (d : Drawing) (q p : ℕ) (b : Bend) (c : Kind) → let l : Line = record { later = q; earlier = p; bend = b; kind = c } in
     (t : Piece → Bool) → ((a : Piece) → Lies (drawn d l) (a .from) (a .to) → t a ≡ true) → allOf t (pieces d l) ≡ true
 all-pieces d q p (Left j) c t h = rw (h _ (along one), h _ (along two))
 all-pieces d q p (Right j) c t h = rw (h _ (along one), h _ (along two))
@@ -140,8 +141,8 @@ module _ (d : Drawing) (s : Sound d) (e f : ℕ) (el : IsLine d e) (fl : IsLine 
   -- all pieces of both lines
   all-apart : apart d E F ≡ true
   all-apart =
-      all-pieces d (E .later) (E .earlier) (E .bend) (E .cut) _ (λ x u.
-      all-pieces d (F .later) (F .earlier) (F .bend) (F .cut) _ (λ y v. pair x y u v))
+      all-pieces d (E .later) (E .earlier) (E .bend) (E .kind) _ (λ x u.
+      all-pieces d (F .later) (F .earlier) (F .bend) (F .kind) _ (λ y v. pair x y u v))
 
 -- Clause 4 of the promise.
 pub planar : (d : Drawing) → Sound d → Planar d

@@ -2,9 +2,10 @@
 use Prim.Native.Nat.{ℕ, pred, _+_, _<_, _≤_}
 use mathlib.Core.Path.{_≡_, refl, sym, _∙_, subst}
 use mathlib.Core.Logic.{_≢_}
-use mathlib.Core.Bool.{Bool, true, false, not, true≢false, and-false}
+use mathlib.Core.Bool.{true, false, not, true≢false, and-false}
 use native.Mathlib.Omega.{arith}
 use borrow.Author.Tests.{lt-ltb, le-ltb, le-leb, lt-leb, eq-eqb, not-true}
+use Rattle.rules.specs.declared.Kind.{Kind}
 use Rattle.rules.specs.declared.Bend.{Bend}
 use Rattle.rules.specs.declared.Bend.the-variants.{Left, Right, Middle, Straight}
 use Rattle.rules.specs.declared.Line.{Line}
@@ -19,7 +20,7 @@ use Rattle.net.specs.Shared.{Came, came-once}
 use Rattle.net.specs.Angles as A
 use Rattle.net.specs.Angles.{Dir}
 use Rattle.net.specs.Aims.{Heads, Aim, out, free, mid, top}
-use Rattle.promise.specs.Nets.{netOf, kindOf}
+use Rattle.promise.specs.Nets.{netOf, bendKind}
 use Rattle.promise.specs.Sound.{Sound}
 use Rattle.promise.specs.Promise.{IsLine, Sectored, Single}
 use Rattle.promise.specs.Leaving.{Leaving, leaving, leaving-heads, end-placed}
@@ -51,16 +52,16 @@ top-sector x x′ y p q h b k =
 -- ---- which lines count at a point
 
 -- A side port is at the earlier end.
-side-port : (v u p : ℕ) (b : Bend) (c : Bool) (s : Side) (j : ℕ) → kindOf b ≡ side s j → u ≡ p →
-    portAt p (record { later = v; earlier = u; bend = b; cut = c }) ≡ true
+side-port : (v u p : ℕ) (b : Bend) (c : Kind) (s : Side) (j : ℕ) → bendKind b ≡ side s j → u ≡ p →
+    portAt p (record { later = v; earlier = u; bend = b; kind = c }) ≡ true
 side-port v u p (Left i) c s j k q = eq-eqb u p q
 side-port v u p (Right i) c s j k q = eq-eqb u p q
 side-port v u p (Middle i) c s j k q = let z : _≡_ {A = ℕ} 0 1 = cc in absurd (omega arith)
 side-port v u p Straight c s j k q = let z : _≡_ {A = ℕ} 0 1 = cc in absurd (omega arith)
 
 -- A middle port is at the later end.
-middle-port : (v u p : ℕ) (b : Bend) (c : Bool) (j : ℕ) → kindOf b ≡ middle j → v ≡ p →
-    portAt p (record { later = v; earlier = u; bend = b; cut = c }) ≡ true
+middle-port : (v u p : ℕ) (b : Bend) (c : Kind) (j : ℕ) → bendKind b ≡ middle j → v ≡ p →
+    portAt p (record { later = v; earlier = u; bend = b; kind = c }) ≡ true
 middle-port v u p (Left i) c j k q = let z : _≡_ {A = ℕ} 0 1 = cc in absurd (omega arith)
 middle-port v u p (Right i) c j k q = let z : _≡_ {A = ℕ} 0 1 = cc in absurd (omega arith)
 middle-port v u p (Middle i) c j k q = eq-eqb v p q
@@ -93,10 +94,10 @@ module _ (d : Drawing) (s : Sound d) where
 
       by-aim : {a : Dir} → Aim (netOf d) (pred p) e a → Heads a (placeOf d p) (towards d p l) → Counts (netOf d) (pred p) e (sectorOf d p l)
       by-aim (out t j k q b c ea) w =
-          absurd (true≢false (sym (side-port (l .later) (l .earlier) p (l .bend) (l .cut) t j k (here (l .earlier) (s .ended .ends e el .0) q)) ∙ away))
+          absurd (true≢false (sym (side-port (l .later) (l .earlier) p (l .bend) (l .kind) t j k (here (l .earlier) (s .ended .ends e el .0) q)) ∙ away))
       by-aim (free t x y c b b′ ea) w = aside t c (free-sector t x y (placeOf d p) (towards d p l) b b′ (rw ea at w))
       by-aim (mid j k q b c ea) w =
-          absurd (true≢false (sym (middle-port (l .later) (l .earlier) p (l .bend) (l .cut) j k (here (l .later) (s .ended .ends e el .1) q)) ∙ away))
+          absurd (true≢false (sym (middle-port (l .later) (l .earlier) p (l .bend) (l .kind) j k (here (l .later) (s .ended .ends e el .1) q)) ∙ away))
       by-aim (top j x x′ y k q b c ea) w = upward j k q (top-sector x x′ y (placeOf d p) (towards d p l) b c (rw ea at w))
 
 -- ---- the two fields

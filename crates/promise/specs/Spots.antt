@@ -6,6 +6,8 @@ use mathlib.Core.Bool.{Bool, true, false, false≢true, or-true}
 use native.Mathlib.Omega.{arith}
 use borrow.Author.Tests.{eqb-true, eq-eqb}
 use lib.Dec.{eqb}
+use Rattle.rules.specs.declared.Kind.{Kind}
+use Rattle.rules.specs.declared.Kind.the-variants.{Guide}
 use Rattle.rules.specs.declared.Line.{Line}
 use Rattle.rules.specs.declared.Place.{Place}
 use Rattle.rules.specs.declared.Bend.{Bend}
@@ -14,10 +16,10 @@ use Rattle.rules.specs.Points.{Drawing, at, xOf, yOf, drOf, placeOf, lineAt}
 use Rattle.rules.specs.Ports.{bendOf, bendPlace, hasPort, portOwner, otherEnd, Piece, freePiece}
 use Rattle.rules.specs.Demand.{endsAt}
 use Rattle.rules.specs.Bools.{either}
-use Rattle.net.specs.Net.{Net, Kind, side, middle, flat}
+use Rattle.net.specs.Net.{Net, BendKind, side, middle, flat}
 use Rattle.net.specs.Inv.{Inv}
 use Rattle.net.specs.Bend.{Spot, start, bend, end, turn, spot}
-use Rattle.promise.specs.Nets.{kindOf, netOf}
+use Rattle.promise.specs.Nets.{bendKind, netOf}
 use Rattle.promise.specs.Promise.{IsLine}
 use Rattle.promise.specs.Sound.{Sound}
 
@@ -37,7 +39,7 @@ spot-end d e = refl
 
 -- the bend by its kind; without a port it is the place of point 1
 turn-bend : (d : Drawing) (v u : ℕ) (b : Bend) → (b ≡ Straight → placeOf d u ≡ placeOf d 1) →
-    turn (netOf d) (pred u) (pred v) (kindOf b) ≡ bendOf d v u b
+    turn (netOf d) (pred u) (pred v) (bendKind b) ≡ bendOf d v u b
 turn-bend d v u (Left j) h = refl
 turn-bend d v u (Right j) h =
     let e : xOf d u + (drOf d u + 1) ≡ xOf d u + drOf d u + 1 = omega arith in
@@ -47,17 +49,17 @@ turn-bend d v u Straight h = h refl
 
 -- a bend has a port
 abbrev pub ported : Bend → Bool
-ported b = hasPort (record { later = 0; earlier = 0; bend = b; cut = false })
+ported b = hasPort (record { later = 0; earlier = 0; bend = b; kind = Guide })
 
 -- the bend at a port
-pub turn-port : (d : Drawing) (v u : ℕ) (b : Bend) → ported b ≡ true → turn (netOf d) (pred u) (pred v) (kindOf b) ≡ bendOf d v u b
+pub turn-port : (d : Drawing) (v u : ℕ) (b : Bend) → ported b ≡ true → turn (netOf d) (pred u) (pred v) (bendKind b) ≡ bendOf d v u b
 turn-port d v u b h = turn-bend d v u b (λ e. absurd (false≢true (sym (ap ported e) ∙ h)))
 
 -- the bend
 pub spot-bend : {d : Drawing} → Sound d → (e : ℕ) → IsLine d e → spot (netOf d) e bend ≡ bendPlace d (lineAt d e)
 spot-bend {d} s e el =
     let l = lineAt d e in
-    turn-bend d (l .later) (l .earlier) (l .bend) (λ q. ap (λ p. placeOf d (suc p)) (flat-ends (s .inv) e el (ap kindOf q) .0))
+    turn-bend d (l .later) (l .earlier) (l .bend) (λ q. ap (λ p. placeOf d (suc p)) (flat-ends (s .inv) e el (ap bendKind q) .0))
 
 -- the three places of a line in the rules
 abbrev pub drawn : Drawing → Line → Spot → Place
@@ -103,17 +105,17 @@ ends-earlier p l q = simp (eq-eqb (l .earlier) p q, or-true)
 -- ---- owners and pieces, by the kind of a line
 
 -- a where the port is at the earlier end, or there is none; b where it is at the later end
-abbrev pub byOwner : {A : Type 0} → Kind → A → A → A
+abbrev pub byOwner : {A : Type 0} → BendKind → A → A → A
 byOwner (side s j) a b = a
 byOwner (middle i) a b = b
 byOwner flat a b = a
 
 -- the line with these ends and this bend
-abbrev lineOf : ℕ → ℕ → Bend → Bool → Line
-lineOf v u b c = record { later = v; earlier = u; bend = b; cut = c }
+abbrev lineOf : ℕ → ℕ → Bend → Kind → Line
+lineOf v u b c = record { later = v; earlier = u; bend = b; kind = c }
 
 -- its port's owner and its other end
-line-ends : (v u : ℕ) (b : Bend) (c : Bool) → (portOwner (lineOf v u b c) ≡ byOwner (kindOf b) u v) × (otherEnd (lineOf v u b c) ≡ byOwner (kindOf b) v u)
+line-ends : (v u : ℕ) (b : Bend) (c : Kind) → (portOwner (lineOf v u b c) ≡ byOwner (bendKind b) u v) × (otherEnd (lineOf v u b c) ≡ byOwner (bendKind b) v u)
 line-ends v u (Left j) c = (refl, refl)
 line-ends v u (Right j) c = (refl, refl)
 line-ends v u (Middle i) c = (refl, refl)
@@ -121,10 +123,10 @@ line-ends v u Straight c = (refl, refl)
 
 -- the other end
 pub other-end : (d : Drawing) (e : ℕ) → otherEnd (lineAt d e) ≡ byOwner (netOf d .kind e) (lineAt d e .later) (lineAt d e .earlier)
-other-end d e = let l = lineAt d e in line-ends (l .later) (l .earlier) (l .bend) (l .cut) .1
+other-end d e = let l = lineAt d e in line-ends (l .later) (l .earlier) (l .bend) (l .kind) .1
 
 -- a function goes inside
-by-ap : {A B : Type 0} (f : A → B) (κ : Kind) (a b : A) → f (byOwner κ a b) ≡ byOwner κ (f a) (f b)
+by-ap : {A B : Type 0} (f : A → B) (κ : BendKind) (a b : A) → f (byOwner κ a b) ≡ byOwner κ (f a) (f b)
 by-ap f (side s j) a b = refl
 by-ap f (middle i) a b = refl
 by-ap f flat a b = refl

@@ -1,8 +1,8 @@
 -- DEMAND 3 AS ONE CLAIM: for every n from 3 to 1,024 and every list of adding calls, refused ones among them, the drawing keeps the promise.
 -- Its answers and the drawing are those of the rules by definition (`said`, `drawn` of `rules`).
 use Prim.Native.Nat.{ℕ, _≤_}
-use mathlib.Core.Bool.{true}
 use mathlib.Core.List.{List}
+use Rattle.rules.specs.declared.Kind.the-variants.{Plain}
 use Rattle.rules.specs.Points.{Drawing}
 use Rattle.rules.specs.Calls.{drawn}
 use Rattle.promise.specs.Promise.{Promise}
@@ -36,7 +36,7 @@ sound-keeps d s =
 
 -- the drawing after any list of calls is sound
 pub sound-drawn : (n : ℕ) (calls : List (List ℕ)) → Sound (drawn n calls)
-sound-drawn n calls = after-keeps Sound sound-added _ (sound-start n 1 true true true) calls
+sound-drawn n calls = after-keeps Sound sound-added _ (sound-start n 1 Plain Plain Plain) calls
 
 -- the theorem
 pub demand-3 : (n : ℕ) → 3 ≤ n → n ≤ 1024 → (calls : List (List ℕ)) → Promise (drawn n calls)

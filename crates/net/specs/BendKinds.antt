@@ -4,7 +4,7 @@ use mathlib.Core.Path.{sym, ap}
 use native.Mathlib.Omega.{arith}
 use native.Mathlib.Decide.{ℕ-discrete}
 use Rattle.net.specs.Side.{Tie, Side, rt, lf, op, Cols, at, cols-self, cols-eq, cols-op, at-op}
-use Rattle.net.specs.Net.{Net, Kind, side, middle, flat}
+use Rattle.net.specs.Net.{Net, BendKind, side, middle, flat}
 use Rattle.net.specs.Inv.{Points, Aside, Fits, port, within, plain, Lines}
 use Rattle.net.specs.Adds.{Line, old, tip, rib, Adds}
 use Rattle.net.specs.Walls.{keep-beyond, join-cols, upto-new, tip-m, tip-in, tip-col}
@@ -29,7 +29,7 @@ module _ {τ : Tie} {g g′ : Net} {l r : ℕ} (h : Points τ g) (a : Adds τ g 
         back = keep-beyond h a (op s) qk pk (cols-op s (f .cols)) (f .back);
       }
 
-  keep-fits : (p q : ℕ) (κ : Kind) → p < g .k → q < g .k → Fits τ g p q κ → Fits τ g′ p q κ
+  keep-fits : (p q : ℕ) (κ : BendKind) → p < g .k → q < g .k → Fits τ g p q κ → Fits τ g′ p q κ
   keep-fits p q (side s j) pk qk (port f b c) = let d = d-more s p pk in port (keep-aside s p q pk qk f) b (omega arith)
   keep-fits p q (middle i) pk qk (within e b b′) =
       within (rw (a .col′ p pk, a .col′ q qk, e)) (keep-beyond h a rt qk pk (cols-eq rt (sym e)) b) (keep-beyond h a lf qk pk (cols-eq lf (sym e)) b′)
