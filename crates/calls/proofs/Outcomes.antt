@@ -1,10 +1,10 @@
 -- The four outcomes of running a list of calls, and where it starts.
 use Prim.Native.Nat.{ℕ, _*_, _<_, _≤_}
 use mathlib.Core.Path.{_≡_, refl, ap, subst}
-use mathlib.Core.Bool.{true}
 use mathlib.Core.List.{List}
 use native.Mathlib.Omega.{arith}
 use lib.ListN.{length}
+use Rattle.rules.specs.declared.Kind.the-variants.{Plain}
 use Rattle.rules.specs.declared.Answer.the-variants.{Accepted, Refused}
 use Rattle.rules.specs.declared.Refusal.the-variants.{OutOfRange, OutputShort}
 use Rattle.rules.specs.Refusals.{toldAnswer}
@@ -31,9 +31,9 @@ begun {n} a c h is =
       holds =
           rw (is .0, is .1)
           (record {
-            standing = standing-start n 1 true true true (h .low) (h .high);
-            sized = sized-open n 1 true true true 1 1 2;
-            stores = stores-open n 1 true true true 1 1 2 refl refl refl;
+            standing = standing-start n 1 Plain Plain Plain (h .low) (h .high);
+            sized = sized-open n 1 Plain Plain Plain 1 1 2;
+            stores = stores-open n 1 Plain Plain Plain 1 1 2 refl refl refl;
           });
       room = h .room;
     }

@@ -6,8 +6,9 @@ use native.Mathlib.Omega.{arith}
 use lib.ListN.{length}
 use lib.Dec.{leb, ltb, eqb}
 use Rattle.rules.specs.declared.Refusal.{Refusal}
-use Rattle.rules.specs.declared.Refusal.the-variants.{Finished, FewEntries, NotPlaced, Covered, NoRun, NotWhole, NoReach}
+use Rattle.rules.specs.declared.Refusal.the-variants.{Finished, FewEntries, BothMarks, NotPlaced, Covered, NoRun, NotWhole, NoReach}
 use Rattle.rules.specs.Refusals.{Result, good, refused, answer, _>>_, refuseIf}
+use Rattle.rules.specs.Entries.{readEntry, isBoth}
 use Rattle.store_links.specs.declared.Counts.{Counts}
 use Rattle.store_links.specs.Arrays.{Arrays, atPoint}
 use Rattle.store_links.specs.Judging.{pointIn, entriesPass, linksPass, runPasses, passes}
@@ -38,8 +39,9 @@ passed = record { place = omega arith }
 entries-within : (most : ℕ) (owner : List ℕ) (k i : ℕ) (es : List ℕ) → i + length es ≤ most → Within most (entriesPass owner k i es)
 entries-within most owner k i [] h = passed
 entries-within most owner k i (e ∷ es) h =
-    then (one (eqb (pointIn e) 0 || ltb k (pointIn e)) NotPlaced i (omega arith))
-    (then (one (not (eqb (atPoint owner (pointIn e)) 0)) Covered i (omega arith)) (entries-within most owner k (suc i) es (omega arith)))
+    then (one (isBoth (readEntry e)) BothMarks i (omega arith))
+    (then (one (eqb (pointIn e) 0 || ltb k (pointIn e)) NotPlaced i (omega arith))
+    (then (one (not (eqb (atPoint owner (pointIn e)) 0)) Covered i (omega arith)) (entries-within most owner k (suc i) es (omega arith))))
 
 links-within : (most : ℕ) (next : List ℕ) (i p : ℕ) (es : List ℕ) → i + length es ≤ most → Within most (linksPass next i p es)
 links-within most next i p [] h = passed

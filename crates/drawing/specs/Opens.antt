@@ -3,6 +3,7 @@ use Prim.Native.Nat.{ℕ, _<_, _≤_}
 use mathlib.Core.Path.{_≡_, refl, sym, ap, _∙_}
 use mathlib.Core.Bool.{true, false}
 use borrow.Author.Tests.{le-leb, lt-leb}
+use Rattle.rules.specs.declared.Kind.the-variants.{Plain}
 use Rattle.rules.specs.declared.Answer.the-variants.{Accepted, Refused}
 use Rattle.rules.specs.declared.Refusal.the-variants.{OutOfRange}
 use Rattle.rules.specs.Basics.{between}
@@ -65,9 +66,9 @@ module _ (n : ℕ) (low : 3 ≤ n) (high : n ≤ 1024) {d : Drawing} (o : OpenFo
   open-is =
       rw (o .arrays, o .counts)
       (record {
-        standing = standing-start n 1 true true true low high;
-        sized = sized-open n 1 true true true 1 1 2;
-        stores = stores-open n 1 true true true 1 1 2 refl refl refl;
+        standing = standing-start n 1 Plain Plain Plain low high;
+        sized = sized-open n 1 Plain Plain Plain 1 1 2;
+        stores = stores-open n 1 Plain Plain Plain 1 1 2 refl refl refl;
       })
 
   -- Accepted.

@@ -114,7 +114,7 @@ pub fn point(d: Drawing, p: usize) -> PointSeen
     point_at(settle(d), p)
 }
 
-// A line with its ends, bend and cut flag, and where its bend lies.
+// A line with its ends, bend and kind, and where its bend lies.
 pub fn line_at(v: Placed, e: usize) -> LineSeen
     requires { ⌜ IsPlaced v ⌝ }
     ensures { λ r. ⌜ ((q : Plan) → Is q (v .drawing) → toldLine r ≡ told (lookLine q e)) ⌝ }

@@ -8,7 +8,7 @@ use Rattle.rules.specs.declared.Refusal.{Refusal}
 use Rattle.rules.specs.declared.Answer.{Answer}
 use Rattle.rules.specs.declared.Answer.the-variants.{Refused}
 use Rattle.rules.specs.Refusals.{Result, good, refused, _>>_, answer}
-use Rattle.rules.specs.Entries.{entryOf}
+use Rattle.rules.specs.Readings.{entryOf}
 use Rattle.rules.specs.Points.{Drawing}
 use Rattle.rules.specs.DrawingFile.{entryIn, judgeRest, judgeDrawing}
 use Rattle.store_links.specs.declared.Added.{Added}
@@ -48,17 +48,17 @@ module _ {f : List ℕ} (t : Passes f) (n s : ℕ) (isN : n ≡ nIn f) (isS : s 
   pub opened-holds : (x y z : ℕ) (a : Arrays) (c : Counts) → x ≡ numberFor (entryIn (lineAt f (headSize + placeSize * n))) → y ≡ numberFor (entryIn (lineAt f (headSize + placeSize * n + lineSize))) → z ≡ numberFor (entryIn (lineAt f (headSize + placeSize * n + 2 * lineSize))) →
       (a ≡ openArrays x y z) × (c ≡ openCounts n s) → Holds (begunIn f) a c
   opened-holds x y z a c hx hy hz (ha, hc) =
-      let ex : entryOf x ≡ record { point = 1; cut = entryIn (firstLine f) .cut } =
+      let ex : entryOf x ≡ record { point = 1; kind = entryIn (firstLine f) .kind } =
       ap entryOf (hx ∙ ap (λ (m : ℕ). numberFor (entryIn (lineAt f (headSize + placeSize * m)))) isN) ∙ number-back (firstLine f) 1 (t .first) (omega arith)
       in
-      let ey : entryOf y ≡ record { point = 1; cut = entryIn (secondLine f) .cut } =
+      let ey : entryOf y ≡ record { point = 1; kind = entryIn (secondLine f) .kind } =
       ap entryOf (hy ∙ ap (λ (m : ℕ). numberFor (entryIn (lineAt f (headSize + placeSize * m + lineSize)))) isN) ∙ number-back (secondLine f) 1 (t .second) (omega arith)
       in
-      let ez : entryOf z ≡ record { point = 2; cut = entryIn (thirdLine f) .cut } =
+      let ez : entryOf z ≡ record { point = 2; kind = entryIn (thirdLine f) .kind } =
       ap entryOf (hz ∙ ap (λ (m : ℕ). numberFor (entryIn (lineAt f (headSize + placeSize * m + 2 * lineSize)))) isN) ∙ number-back (thirdLine f) 2 (t .third) (omega arith)
       in
       rw (ha, hc, isN, isS)
-      (record { standing = standing-start (nIn f) (sIn f) _ _ _ (t .low) (t .high); sized = sized-open (nIn f) (sIn f) (entryIn (firstLine f) .cut) (entryIn (secondLine f) .cut) (entryIn (thirdLine f) .cut) x y z; stores = stores-open (nIn f) (sIn f) _ _ _ x y z ex ey ez })
+      (record { standing = standing-start (nIn f) (sIn f) _ _ _ (t .low) (t .high); sized = sized-open (nIn f) (sIn f) (entryIn (firstLine f) .kind) (entryIn (secondLine f) .kind) (entryIn (thirdLine f) .kind) x y z; stores = stores-open (nIn f) (sIn f) _ _ _ x y z ex ey ez })
 
   -- what is left to judge
   left-over : {c : Counts} → c ≡ openCounts n s → restGroups f (headSize + placeSize * n) (3 * n - 6) c (begunIn f) ≡ judgeDrawing f

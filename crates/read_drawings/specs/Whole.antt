@@ -7,7 +7,8 @@ use native.Mathlib.Omega.{arith}
 use lib.ListN.{length}
 use borrow.Author.Tests.{eq-eqb, ne-eqb, lt-ltb}
 use Rattle.rules.specs.Refusals.{Result, good, _>>_}
-use Rattle.rules.specs.Entries.{entryOf, wordOf, pointLimit}
+use Rattle.rules.specs.Entries.{wordOf, pointLimit}
+use Rattle.rules.specs.Readings.{entryOf, given-is}
 use Rattle.rules.specs.Points.{Drawing, start}
 use Rattle.rules.specs.Records.{Found, lineSize}
 use Rattle.rules.specs.RoundTrip.{entry-back}
@@ -76,7 +77,7 @@ module _ {x y z : Found} {fs : List Found} (t : Begins x y z fs) where
   abbrev all : List Found
   all = x ∷ y ∷ z ∷ fs
 
-  begun-is : (n s : ℕ) → begunWith n s all ≡ start n s (entryIn x .cut) (entryIn y .cut) (entryIn z .cut)
+  begun-is : (n s : ℕ) → begunWith n s all ≡ start n s (entryIn x .kind) (entryIn y .kind) (entryIn z .kind)
   unfolding begunWith
   begun-is n s =
       let a = joined x 2 1 (t .first) in
@@ -106,7 +107,7 @@ thirdLine f = lineAt f (linesFrom (nIn f) + 2 * lineSize)
 
 -- the drawing that it begins
 abbrev pub begunIn : List ℕ → Drawing
-begunIn f = start (nIn f) (sIn f) (entryIn (firstLine f) .cut) (entryIn (secondLine f) .cut) (entryIn (thirdLine f) .cut)
+begunIn f = start (nIn f) (sIn f) (entryIn (firstLine f) .kind) (entryIn (secondLine f) .kind) (entryIn (thirdLine f) .kind)
 
 pub record Passes (f : List ℕ) : Type 0 where
   pub low : 3 ≤ nIn f
@@ -145,8 +146,8 @@ file-passes f h =
     }
 
 -- the number that stands for a line's entry reads back, where its earlier point is small
-pub number-back : (l : Found) (p : ℕ) → earlierIn l ≡ p → p < pointLimit → entryOf (numberFor (entryIn l)) ≡ record { point = p; cut = entryIn l .cut }
+pub number-back : (l : Found) (p : ℕ) → earlierIn l ≡ p → p < pointLimit → entryOf (numberFor (entryIn l)) ≡ record { point = p; kind = entryIn l .kind }
 number-back l p h small =
     let low : earlierIn l < pointLimit = omega arith in
     let form : numberFor (entryIn l) ≡ wordOf (entryIn l) = rw (lt-ltb (earlierIn l) pointLimit low) in
-    ap entryOf form ∙ entry-back (entryIn l) low ∙ λ i. record { point = h i; cut = entryIn l .cut }
+    ap entryOf form ∙ sym (given-is (wordOf (entryIn l)) (entryIn l) (entry-back (entryIn l) low)) ∙ λ i. record { point = h i; kind = entryIn l .kind }

@@ -1,13 +1,13 @@
 -- The line records of a drawing file, of 12 bytes each: what stands where in them.
 use Prim.Native.Nat.{ℕ, zero, suc, _+_, _-_, _*_, _<_, _≤_}
 use mathlib.Core.Path.{_≡_, refl, ap, _∙_}
-use mathlib.Core.Bool.{Bool, not, _&&_}
+use mathlib.Core.Bool.{Bool, _&&_}
 use mathlib.Core.List.{List, [], _∷_}
 use native.Mathlib.Omega.{arith}
 use lib.ListN.{length, getD}
 use lib.Dec.{eqb}
 use Rattle.rules.specs.Records.{Found, lineSize}
-use Rattle.rules.specs.DrawingFile.{laterIn, entryIn, groupPlace}
+use Rattle.rules.specs.DrawingFile.{kindFrom, laterIn, entryIn, groupPlace}
 use Rattle.words.specs.Bytes.{wordAt}
 use Rattle.read_records.specs.Marked.{recordAt, recordsAt, words-in}
 
@@ -27,7 +27,7 @@ earlierIn l = entryIn l .point
 pub record LineIs (f : List ℕ) (at : ℕ) : Type 0 where
   pub later : laterIn (lineAt f at) ≡ wordAt f (at + 2)
   pub earlier : earlierIn (lineAt f at) ≡ wordAt f (at + 4)
-  pub cut : entryIn (lineAt f at) .cut ≡ not (eqb (wordAt f (at + 10)) 0)
+  pub kind : entryIn (lineAt f at) .kind ≡ kindFrom (wordAt f (at + 10))
 
 pub line-is : (f : List ℕ) (at : ℕ) → at + lineSize ≤ length f → LineIs f at
 line-is f at h =
@@ -35,7 +35,7 @@ line-is f at h =
     record {
       later = w 0 (omega arith) ∙ ap (wordAt f) (omega arith);
       earlier = w 1 (omega arith) ∙ ap (wordAt f) (omega arith);
-      cut = ap (λ (x : ℕ). not (eqb x 0)) (w 4 (omega arith) ∙ ap (wordAt f) (omega arith));
+      kind = ap kindFrom (w 4 (omega arith) ∙ ap (wordAt f) (omega arith));
     }
 
 -- the line joins the points a and b

@@ -11,12 +11,12 @@ ghost use Rattle.rules.specs.DrawingFile.{entryIn};
 ghost use Rattle.read_groups.specs.Lines.{lineAt, joins};
 ghost use Rattle.read_groups.specs.Groups.{numberFor, Taken};
 
-// Where a line record has its later point, its earlier point and how it is cut.
+// Where a line record has its later point, its earlier point and its kind.
 pub const LATER_AT: usize = 2;
 
 const EARLIER_AT: usize = 4;
 
-const CUT_AT: usize = 10;
+const KIND_AT: usize = 10;
 
 // Where the second, the third and the fourth line stand behind the first.
 pub const SECOND: usize = LINE_SIZE;
@@ -45,8 +45,8 @@ pub fn entry_at(f: &[u8], at: usize) -> u16
     if POINT_LIMIT <= point {
         return 0;
     }
-    let cut = word_at(f, at + CUT_AT) != 0;
-    words::join(Entry { point, cut })
+    let kind = words::kind_from(word_at(f, at + KIND_AT));
+    words::join(Entry { point, kind })
 }
 
 // Takes the group of point p from the `left` lines from `at` on, as entries into e; gives its number of lines.

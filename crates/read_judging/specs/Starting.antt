@@ -18,11 +18,11 @@ use Rattle.read_groups.specs.Lines.{earlierIn, joins}
 -- "Point 1 has no entry, point 2 has 1, point 3 has 1, 2": else 4
 unfoldable pub startTests : ℕ → List Found → Result (Unit {0})
 startTests end fs = do
-  startTest [] (group 1 fs) (groupPlace end fs)
+  startTest [] (pointsOf (group 1 fs)) (groupPlace end fs)
   let gs = behind 1 fs
-  startTest (1 ∷ []) (group 2 gs) (groupPlace end gs)
+  startTest (1 ∷ []) (pointsOf (group 2 gs)) (groupPlace end gs)
   let hs = behind 2 gs
-  startTest (1 ∷ 2 ∷ []) (group 3 hs) (groupPlace end hs)
+  startTest (1 ∷ 2 ∷ []) (pointsOf (group 3 hs)) (groupPlace end hs)
 
 -- whether the next line's later point is p
 abbrev pub nextIs : ℕ → List Found → Bool
@@ -70,8 +70,8 @@ module _ (end : ℕ) (x : Found) (fs : List Found) where
     -- what is left of the tests
     abbrev second : Result (Unit {0})
     second = do
-      startTest (1 ∷ []) (entryIn x ∷ group 2 fs) (x .place)
-      startTest (1 ∷ 2 ∷ []) (group 3 (behind 2 fs)) (groupPlace end (behind 2 fs))
+      startTest (1 ∷ []) (pointsOf (entryIn x ∷ group 2 fs)) (x .place)
+      startTest (1 ∷ 2 ∷ []) (pointsOf (group 3 (behind 2 fs))) (groupPlace end (behind 2 fs))
 
     second-left : startTests end (x ∷ fs) ≡ second
     unfolding startTests
@@ -80,7 +80,7 @@ module _ (end : ℕ) (x : Found) (fs : List Found) where
     pub two-of-2 : nextIs 2 fs ≡ true → startTests end (x ∷ fs) ≡ refused OtherStart (x .place)
     two-of-2 q = second-left ∙ rw (eq-eqb (earlierIn x) 1 (joined x 2 1 h .1), none-there 2 fs, q)
 
-    third-left : nextIs 2 fs ≡ false → startTests end (x ∷ fs) ≡ startTest (1 ∷ 2 ∷ []) (group 3 fs) (groupPlace end fs)
+    third-left : nextIs 2 fs ≡ false → startTests end (x ∷ fs) ≡ startTest (1 ∷ 2 ∷ []) (pointsOf (group 3 fs)) (groupPlace end fs)
     third-left q = second-left ∙ rw (eq-eqb (earlierIn x) 1 (joined x 2 1 h .1), none-there 2 fs, q, none-next 2 fs q .1)
 
 -- 4 at the second line
@@ -88,7 +88,7 @@ module _ (end : ℕ) (x y : Found) (fs : List Found) (h : joins x 2 1 ≡ true) 
   pub not-3-1 : joins y 3 1 ≡ false → startTests end (x ∷ y ∷ fs) ≡ refused OtherStart (y .place)
   not-3-1 q = third-left end x (y ∷ fs) h one ∙ go (eqb (laterIn y) 3) refl
     where
-      go : (a : Bool) → eqb (laterIn y) 3 ≡ a → startTest (1 ∷ 2 ∷ []) (group 3 (y ∷ fs)) (y .place) ≡ refused OtherStart (y .place)
+      go : (a : Bool) → eqb (laterIn y) 3 ≡ a → startTest (1 ∷ 2 ∷ []) (pointsOf (group 3 (y ∷ fs))) (y .place) ≡ refused OtherStart (y .place)
       go true r = let e : eqb (earlierIn y) 1 ≡ false = rw r at q in rw (r, e)
       go false r = rw r
 

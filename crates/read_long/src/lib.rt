@@ -10,7 +10,7 @@ use words::word_at;
 ghost use Rattle.store_tables.specs.Tables.{Full, arraysIn};
 ghost use Rattle.read_long.specs.Long.{Long, LongRead};
 
-// Its refusal, for `count` entries at `from` of the file: 21, then entry by entry 6 before 7, then 8.
+// Its refusal, for `count` entries at `from` of the file: 21, then entry by entry 13, 6, 7, then 8.
 pub fn judge_long(f: &[u8], from: usize, count: usize, table: &[u16], c: Counts) -> Refusal
     requires { ⌜ Long (now f) from count (arraysIn (now table)) c × Full (now table) ⌝ }
     ensures { λ r. ⌜ LongRead (now (f .entry)) from count (arraysIn (now (table .entry))) c r ⌝ }

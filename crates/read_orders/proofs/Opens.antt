@@ -5,7 +5,7 @@ use mathlib.Core.List.{List, [], _∷_}
 use Rattle.rules.specs.declared.Refusal.{Refusal}
 use Rattle.rules.specs.declared.Answer.the-variants.{Refused}
 use Rattle.rules.specs.Refusals.{Result}
-use Rattle.rules.specs.Entries.{entryOf}
+use Rattle.rules.specs.Readings.{entryOf}
 use Rattle.rules.specs.Points.{Drawing}
 use Rattle.rules.specs.OrderFile.{startWith, readPoints, readOrder}
 use Rattle.store_links.specs.declared.Added.{Added}
@@ -27,9 +27,9 @@ use Rattle.store_points.specs.Zeros.{zeros}
 use Rattle.read_orders.specs.Points.{Going, Gave, RestRead, Headed}
 use Rattle.read_orders.proofs.Turns.{gave-refused}
 
--- an entry is its point and whether it is cut
-entry-is : (w p : ℕ) → pointIn w ≡ p → entryOf w ≡ record { point = p; cut = entryOf w .cut }
-entry-is w p h = λ i. record { point = h i; cut = entryOf w .cut }
+-- an entry is its point and its kind
+entry-is : (w p : ℕ) → pointIn w ≡ p → entryOf w ≡ record { point = p; kind = entryOf w .kind }
+entry-is w p h = λ i. record { point = h i; kind = entryOf w .kind }
 
 -- the drawing that their entries begin
 abbrev begin : ℕ → ℕ → ℕ → ℕ → ℕ → Drawing
@@ -52,10 +52,10 @@ module _ {f : List ℕ} {at n : ℕ} {t : List ℕ} (z : Headed f at n t) (s : �
       held =
           rw (opened .0, opened .1)
           (record {
-            standing = standing-start n s (entryOf a .cut) (entryOf b .cut) (entryOf c .cut) (z .low) (z .high);
-            sized = sized-open n s (entryOf a .cut) (entryOf b .cut) (entryOf c .cut) a b c;
+            standing = standing-start n s (entryOf a .kind) (entryOf b .kind) (entryOf c .kind) (z .low) (z .high);
+            sized = sized-open n s (entryOf a .kind) (entryOf b .kind) (entryOf c .kind) a b c;
             stores =
-                stores-open n s (entryOf a .cut) (entryOf b .cut) (entryOf c .cut) a b c (entry-is a 1 (begun .first)) (entry-is b 1 (begun .second)) (entry-is c 2 (begun .third));
+                stores-open n s (entryOf a .kind) (entryOf b .kind) (entryOf c .kind) a b c (entry-is a 1 (begun .first)) (entry-is b 1 (begun .second)) (entry-is c 2 (begun .third));
           })
 
       -- the rest can be read, and gives all

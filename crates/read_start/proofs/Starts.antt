@@ -1,23 +1,24 @@
 -- The records of points 1 to 3: what each test makes of them.
 use Prim.Native.Nat.{ℕ, _+_}
 use mathlib.Core.Path.{_≡_, sym, _∙_}
-use mathlib.Core.Bool.{false}
+use mathlib.Core.Bool.{true, false, _||_}
 use mathlib.Core.List.{List, [], _∷_, map}
 use native.Mathlib.Omega.{arith}
-use lib.ListN.{length, drop}
+use lib.ListN.{length, drop, length-map}
 use borrow.Author.Tests.{eq-eqb, ne-eqb}
 use Rattle.rules.specs.declared.Entry.{Entry}
 use Rattle.rules.specs.declared.Refusal.{Refusal}
-use Rattle.rules.specs.declared.Refusal.the-variants.{OtherStart}
-use Rattle.rules.specs.Basics.{same}
+use Rattle.rules.specs.declared.Refusal.the-variants.{BothMarks, OtherStart}
+use Rattle.rules.specs.declared.Reading.the-variants.{Given}
+use Rattle.rules.specs.Basics.{same, anyOf}
+use Rattle.rules.specs.Bools.{neither}
 use Rattle.rules.specs.Same.{other-length}
 use Rattle.rules.specs.Refusals.{refused}
-use Rattle.rules.specs.Entries.{entryOf}
-use Rattle.rules.specs.Adding.{pointsOf}
+use Rattle.rules.specs.Entries.{readEntry, isBoth, pointRead, pointsRead}
+use Rattle.rules.specs.Readings.{entryOf, entry-read}
 use Rattle.rules.specs.Records.{wordsIn, readRecord, pointEntries}
 use Rattle.rules.specs.OrderFile.{readPoints}
 use Rattle.store_links.specs.Judging.{pointIn}
-use Rattle.rules.specs.Lengths.{length-call}
 use Rattle.words.specs.Bytes.{wordAt}
 use Rattle.read_records.specs.Cursors.{cursor, one-left, two-left, words-count}
 use Rattle.read_records.specs.Reading.{Got}
@@ -26,8 +27,8 @@ use Rattle.read_start.specs.declared.Start.the-variants as start
 use Rattle.read_start.specs.Starting.{thirdFrom, secondFrom, pointsFrom, Begun, StartRead}
 
 -- entries of another count are not the same
-other-count : (ws wanted : List ℕ) → (length ws ≡ length wanted → ⊥) → same (pointsOf (map entryOf ws)) wanted ≡ false
-other-count ws wanted n = other-length (pointsOf (map entryOf ws)) wanted (λ q. n (sym (length-call ws) ∙ q))
+other-count : (ws wanted : List ℕ) → (length ws ≡ length wanted → ⊥) → same (pointsRead (map readEntry ws)) wanted ≡ false
+other-count ws wanted n = other-length (pointsRead (map readEntry ws)) wanted (λ q. n (sym (length-map (map readEntry ws) pointRead ∙ length-map ws readEntry) ∙ q))
 
 -- the record is refused
 module _ (f : List ℕ) (at : ℕ) (r : Refusal) (p : ℕ) (h : readRecord pointEntries (cursor f at) ≡ refused r p) (n s : ℕ) where
@@ -42,7 +43,7 @@ module _ (f : List ℕ) (at : ℕ) (r : Refusal) (p : ℕ) (h : readRecord point
   third-bad second = rw h
 
 module _ {f : List ℕ} {at c from next : ℕ} (g : Got f at c from next) where
-  wrong-count : (wanted : List ℕ) → (c ≡ length wanted → ⊥) → same (pointsOf (map entryOf (wordsIn c (drop from f)))) wanted ≡ false
+  wrong-count : (wanted : List ℕ) → (c ≡ length wanted → ⊥) → same (pointsRead (map readEntry (wordsIn c (drop from f)))) wanted ≡ false
   wrong-count wanted n = other-count (wordsIn c (drop from f)) wanted (λ q. n (sym (words-count f from c (omega (arith, g .room, g .behind))) ∙ q))
 
   -- ---- point 1
@@ -50,13 +51,20 @@ module _ {f : List ℕ} {at c from next : ℕ} (g : Got f at c from next) where
   unfolding readPoints
   first-count w n s = rw (g .is, wrong-count [] w)
 
-  -- ---- point 2
-  pub second-count : (c ≡ 1 → ⊥) → (n s : ℕ) → secondFrom (cursor f at) n s ≡ refused OtherStart at
-  second-count w n s = rw (g .is, wrong-count (1 ∷ []) w)
+  -- ---- point 2, and point 3
+  module _ (b : anyOf isBoth (map readEntry (wordsIn c (drop from f))) ≡ true) where
+    pub second-both : (n s : ℕ) → secondFrom (cursor f at) n s ≡ refused BothMarks at
+    second-both n s = rw (g .is, b)
 
-  -- ---- point 3
-  pub third-count : (c ≡ 2 → ⊥) → (second : List Entry) (n s : ℕ) → thirdFrom second (cursor f at) n s ≡ refused OtherStart at
-  third-count w second n s = rw (g .is, wrong-count (1 ∷ 2 ∷ []) w)
+    pub third-both : (second : List Entry) (n s : ℕ) → thirdFrom second (cursor f at) n s ≡ refused BothMarks at
+    third-both second n s = rw (g .is, b)
+
+  module _ (o : anyOf isBoth (map readEntry (wordsIn c (drop from f))) ≡ false) where
+    pub second-count : (c ≡ 1 → ⊥) → (n s : ℕ) → secondFrom (cursor f at) n s ≡ refused OtherStart at
+    second-count w n s = rw (g .is, o, wrong-count (1 ∷ []) w)
+
+    pub third-count : (c ≡ 2 → ⊥) → (second : List Entry) (n s : ℕ) → thirdFrom second (cursor f at) n s ≡ refused OtherStart at
+    third-count w second n s = rw (g .is, o, wrong-count (1 ∷ 2 ∷ []) w)
 
 -- point 1's record has no entry
 module _ {f : List ℕ} {at from next : ℕ} (g : Got f at 0 from next) where
@@ -66,31 +74,43 @@ module _ {f : List ℕ} {at from next : ℕ} (g : Got f at 0 from next) where
   first-in (start.Refused r p) h = λ n s. rw (g .is) (h n s)
 
 -- point 2's record has one, a
-module _ {f : List ℕ} {at from next : ℕ} (g : Got f at 1 from next) {a : ℕ} (is-a : a ≡ wordAt f from) where
+module _ {f : List ℕ} {at from next : ℕ} (g : Got f at 1 from next) (o : anyOf isBoth (map readEntry (wordsIn 1 (drop from f))) ≡ false) {a : ℕ} (is-a : a ≡ wordAt f from) where
   one : wordsIn 1 (drop from f) ≡ a ∷ []
   one = one-left f from (omega (arith, g .room, g .behind)) ∙ rw is-a
 
+  given : readEntry a ≡ Given (entryOf a)
+  given = entry-read a (neither (isBoth (readEntry a)) false (rw one at o) .0)
+
   pub second-other : (pointIn a ≡ 1 → ⊥) → (n s : ℕ) → secondFrom (cursor f at) n s ≡ refused OtherStart at
-  second-other w n s = rw (g .is, one, ne-eqb (pointIn a) 1 w)
+  second-other w n s = rw (g .is, one, given, ne-eqb (pointIn a) 1 w)
 
   second-by : pointIn a ≡ 1 → (n s : ℕ) → secondFrom (cursor f at) n s ≡ thirdFrom (entryOf a ∷ []) (cursor f next) n s
-  second-by w n s = rw (g .is, one, eq-eqb (pointIn a) 1 w)
+  second-by w n s = rw (g .is, one, given, eq-eqb (pointIn a) 1 w)
 
   pub second-in : pointIn a ≡ 1 → (o : Start) → StartRead f (thirdFrom (entryOf a ∷ []) (cursor f next)) o → StartRead f (secondFrom (cursor f at)) o
   second-in w (start.Given x b c o) h = record { room = h .room; first = h .first; second = h .second; third = h .third; rest = λ n s. second-by w n s ∙ h .rest n s }
   second-in w (start.Refused r p) h = λ n s. second-by w n s ∙ h n s
 
 -- point 3's record has two, b and c
-module _ {f : List ℕ} {at from next : ℕ} (g : Got f at 2 from next) {b c : ℕ} (is-b : b ≡ wordAt f from) (is-c : c ≡ wordAt f (from + 2)) where
+module _ {f : List ℕ} {at from next : ℕ} (g : Got f at 2 from next) (o : anyOf isBoth (map readEntry (wordsIn 2 (drop from f))) ≡ false) {b c : ℕ} (is-b : b ≡ wordAt f from) (is-c : c ≡ wordAt f (from + 2)) where
   two : wordsIn 2 (drop from f) ≡ b ∷ c ∷ []
   two = two-left f from (omega (arith, g .room, g .behind)) ∙ rw (is-b, is-c)
 
+  neither-both : (isBoth (readEntry b) ≡ false) × ((isBoth (readEntry c) || false) ≡ false)
+  neither-both = neither (isBoth (readEntry b)) (isBoth (readEntry c) || false) (rw two at o)
+
+  given-b : readEntry b ≡ Given (entryOf b)
+  given-b = entry-read b (neither-both .0)
+
+  given-c : readEntry c ≡ Given (entryOf c)
+  given-c = entry-read c (neither (isBoth (readEntry c)) false (neither-both .1) .0)
+
   pub third-first : (pointIn b ≡ 1 → ⊥) → (second : List Entry) (n s : ℕ) → thirdFrom second (cursor f at) n s ≡ refused OtherStart at
-  third-first w second n s = rw (g .is, two, ne-eqb (pointIn b) 1 w)
+  third-first w second n s = rw (g .is, two, given-b, given-c, ne-eqb (pointIn b) 1 w)
 
   module _ (w : pointIn b ≡ 1) where
     pub third-second : (pointIn c ≡ 2 → ⊥) → (second : List Entry) (n s : ℕ) → thirdFrom second (cursor f at) n s ≡ refused OtherStart at
-    third-second v second n s = rw (g .is, two, eq-eqb (pointIn b) 1 w, ne-eqb (pointIn c) 2 v)
+    third-second v second n s = rw (g .is, two, given-b, given-c, eq-eqb (pointIn b) 1 w, ne-eqb (pointIn c) 2 v)
 
     pub third-in : (a : ℕ) → pointIn a ≡ 1 → pointIn c ≡ 2 → Begun f (thirdFrom (entryOf a ∷ []) (cursor f at)) a b c next
-    third-in a h v = record { room = g .room; first = h; second = w; third = v; rest = λ n s. rw (g .is, two, eq-eqb (pointIn b) 1 w, eq-eqb (pointIn c) 2 v) }
+    third-in a h v = record { room = g .room; first = h; second = w; third = v; rest = λ n s. rw (g .is, two, given-b, given-c, eq-eqb (pointIn b) 1 w, eq-eqb (pointIn c) 2 v) }

@@ -5,10 +5,11 @@ use mathlib.Core.List.{List, [], _∷_}
 use lib.ListN.{length}
 use Rattle.rules.specs.declared.Entry.{Entry}
 use Rattle.rules.specs.Refusals.{Result, refused, _>>_, _>>=_}
-use Rattle.rules.specs.Entries.{entryOf}
+use Rattle.rules.specs.Entries.{givenIn}
+use Rattle.rules.specs.Readings.{entryOf}
 use Rattle.rules.specs.Points.{Drawing}
 use Rattle.rules.specs.Records.{Cursor, readRecord, pointEntries}
-use Rattle.rules.specs.OrderFile.{startTest, startWith, entriesIn, readRest, readPoints}
+use Rattle.rules.specs.OrderFile.{recordTests, startWith, entriesIn, readRest, readPoints}
 use Rattle.store_links.specs.Judging.{pointIn}
 use Rattle.read_records.specs.Cursors.{cursor}
 use Rattle.read_start.specs.declared.Start.{Start}
@@ -18,15 +19,15 @@ use Rattle.read_start.specs.declared.Start.the-variants as start
 abbrev pub thirdFrom : List Entry → Cursor → ℕ → ℕ → Result Drawing
 thirdFrom second at n s = do
   h ← readRecord pointEntries at
-  startTest (1 ∷ 2 ∷ []) (entriesIn h) (h .place)
-  readRest (n - 3) (startWith n s second (entriesIn h)) (h .next)
+  recordTests (1 ∷ 2 ∷ []) (entriesIn h) (h .place)
+  readRest (n - 3) (startWith n s second (givenIn (entriesIn h))) (h .next)
 
 -- point 2's record and the rest
 abbrev pub secondFrom : Cursor → ℕ → ℕ → Result Drawing
 secondFrom at n s = do
   g ← readRecord pointEntries at
-  startTest (1 ∷ []) (entriesIn g) (g .place)
-  thirdFrom (entriesIn g) (g .next) n s
+  recordTests (1 ∷ []) (entriesIn g) (g .place)
+  thirdFrom (givenIn (entriesIn g)) (g .next) n s
 
 abbrev pub pointsFrom : Cursor → ℕ → ℕ → Result Drawing
 pointsFrom at n s = readPoints n s at

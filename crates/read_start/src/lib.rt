@@ -12,13 +12,17 @@ use rules::ORDER_MARK;
 use rules::Refusal;
 use rules::SCALE_MARK;
 use words::broad;
+use words::is_both;
 use words::point_of;
 use words::word_at;
 ghost use mathlib.Core.Path.{_≡_};
-ghost use mathlib.Core.List.{[], _∷_};
-ghost use Prim.Native.Nat.{_≤_};
-ghost use lib.ListN.{length};
-ghost use Rattle.rules.specs.Entries.{entryOf};
+ghost use mathlib.Core.List.{[], _∷_, map};
+ghost use Prim.Native.Nat.{_+_, _*_, _≤_};
+ghost use lib.ListN.{length, drop};
+ghost use Rattle.rules.specs.Basics.{anyOf};
+ghost use Rattle.rules.specs.Entries.{readEntry, isBoth};
+ghost use Rattle.rules.specs.Readings.{entryOf};
+ghost use Rattle.rules.specs.Records.{wordsIn};
 ghost use Rattle.store_links.specs.Judging.{pointIn};
 ghost use Rattle.read_records.specs.Cursors.{cursor};
 ghost use Rattle.read_start.specs.Heading.{HeadRead, ScaleRead};
@@ -92,7 +96,22 @@ pub fn read_head(f: &[u8]) -> Head
     }
 }
 
-// Point 3's record, whose entries are points 1 and 2, else 4; a is the entry of point 2.
+// Whether one of the `count` entries at `from` is marked both guide and feeder.
+fn any_both(f: &[u8], from: usize, count: usize) -> bool
+    requires { ⌜ from + 2 * count ≤ length (now f) ⌝ }
+    ensures { λ r. ⌜ r ≡ anyOf isBoth (map readEntry (wordsIn count (drop from (now (f .entry))))) ⌝ }
+{
+    let mut i = 0;
+    while i < count {
+        if is_both(word_at(f, from + 2 * i)) {
+            return true;
+        }
+        i += 1;
+    }
+    false
+}
+
+// Point 3's record, with an entry marked both 13, and whose entries are points 1 and 2, else 4; a is the entry of point 2.
 fn read_third(f: &[u8], at: usize, a: u16) -> Start
     requires { ⌜ (at ≤ length (now f)) × (pointIn a ≡ 1) ⌝ }
     ensures { λ r. ⌜ StartRead (now (f .entry)) (thirdFrom (entryOf a ∷ []) (cursor (now (f .entry)) at)) r ⌝ }
@@ -100,6 +119,9 @@ fn read_third(f: &[u8], at: usize, a: u16) -> Start
     match read_entries(f, at) {
         Entries::Refused(r, p) => Start::Refused(r, p),
         Entries::Given { count, from, next } => {
+            if any_both(f, from, count) {
+                return Start::Refused(Refusal::BothMarks, at);
+            }
             if count != 2 {
                 return Start::Refused(Refusal::OtherStart, at);
             }
@@ -116,7 +138,7 @@ fn read_third(f: &[u8], at: usize, a: u16) -> Start
     }
 }
 
-// Point 2's record, whose entry is point 1, else 4; then point 3's.
+// Point 2's record, with an entry marked both 13, and whose entry is point 1, else 4; then point 3's.
 fn read_second(f: &[u8], at: usize) -> Start
     requires { ⌜ at ≤ length (now f) ⌝ }
     ensures { λ r. ⌜ StartRead (now (f .entry)) (secondFrom (cursor (now (f .entry)) at)) r ⌝ }
@@ -124,6 +146,9 @@ fn read_second(f: &[u8], at: usize) -> Start
     match read_entries(f, at) {
         Entries::Refused(r, p) => Start::Refused(r, p),
         Entries::Given { count, from, next } => {
+            if any_both(f, from, count) {
+                return Start::Refused(Refusal::BothMarks, at);
+            }
             if count != 1 {
                 return Start::Refused(Refusal::OtherStart, at);
             }

@@ -10,7 +10,8 @@ use Rattle.rules.specs.declared.Answer.the-variants.{Accepted, Refused}
 use Rattle.rules.specs.declared.Refusal.{Refusal}
 use Rattle.rules.specs.declared.Refusal.the-variants.{NoReach}
 use Rattle.rules.specs.Refusals.{Result, good, refused, _>>_, refuseIf, answer}
-use Rattle.rules.specs.Entries.{entryOf}
+use Rattle.rules.specs.Entries.{readEntry}
+use Rattle.rules.specs.Readings.{entryOf, points-read}
 use Rattle.store_links.specs.declared.Counts.{Counts}
 use Rattle.store_links.specs.declared.Spot.{Spot}
 use Rattle.store_links.specs.Arrays.{Arrays, Sized}
@@ -57,7 +58,7 @@ passing {a} {c} r es h =
     let t = r .holds .stores in
     let s = r .holds .standing .sound in
     let g = r .holds .standing .ranged in
-    let p = tests-passed d (map entryOf es) (sym (passes-is t s es) ∙ h) in
+    let p = tests-passed d (map readEntry es) (map entryOf es) (points-read es) (sym (passes-is t s es) ∙ h) in
     let q = p .run in
     let room : d .k < 1024 = omega (arith, p .room, g .high) in
     record {

@@ -25,7 +25,7 @@ module _ (owner next : List ℕ) (n k m : ℕ) (es : List ℕ) where
   few room h = rw (lt-leb n k room, lt-ltb (length es) 2 h)
 
   module _ (room : k < n) (enough : 2 ≤ length es) where
-    -- 6 or 7
+    -- 13, 6 or 7
     pub at-entries : (f : Refusal) (p : ℕ) → answer (entriesPass owner k 0 es) ≡ Refused f p → answer (entriesPass owner k 0 es) ≡ answer (passes owner next n k m es)
     unfolding passes
     at-entries f p h = rw (lt-leb n k room, le-ltb (length es) 2 enough) (stops (entriesPass owner k 0 es) _ f p h)

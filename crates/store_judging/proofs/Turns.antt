@@ -1,6 +1,6 @@
 -- The tests of one entry, and one turn of the loop along the links, on lists.
 use Prim.Native.Nat.{ℕ, _+_, _-_, _<_}
-use mathlib.Core.Path.{_≡_, refl, ap}
+use mathlib.Core.Path.{_≡_, refl, sym, ap, _∙_}
 use mathlib.Core.Bool.{not, _||_}
 use mathlib.Core.List.{List, [], _∷_}
 use native.Mathlib.Numerals.{add-one}
@@ -8,8 +8,13 @@ use native.Mathlib.Omega.{arith}
 use lib.ListN.{length, getD, drop}
 use lib.Seq.{drop-cons}
 use lib.Dec.{ltb, eqb}
-use Rattle.rules.specs.declared.Refusal.the-variants.{NotPlaced, Covered, NoRun}
-use Rattle.rules.specs.Refusals.{Result, good, _>>_, refuseIf}
+use Rattle.rules.specs.declared.Refusal.the-variants.{BothMarks, NotPlaced, Covered, NoRun}
+use Rattle.rules.specs.declared.Answer.the-variants.{Refused}
+use Rattle.rules.specs.declared.Entry.{Entry}
+use Rattle.rules.specs.declared.Reading.the-variants.{Given, Both}
+use Rattle.rules.specs.Refusals.{Result, good, _>>_, refuseIf, answer}
+use Rattle.rules.specs.Entries.{readEntry}
+use Rattle.rules.specs.Readings.{given-is}
 use Rattle.store_links.specs.Arrays.{atPoint}
 use Rattle.store_links.specs.Judging.{pointIn, entriesPass, linksPass, runPasses}
 use Rattle.store_links.specs.Placing.{entryPoint}
@@ -25,8 +30,16 @@ entryTests owner k i p = do
   refuseIf (not (eqb (getD owner (p - 1) 0) 0)) Covered i
   good tt
 
-pub entry-by : (owner : List ℕ) (k i e p : ℕ) → p ≡ pointIn e → entriesPass owner k i (e ∷ []) ≡ entryTests owner k i p
-entry-by owner k i e p h = rw (h, ← at-point owner (pointIn e))
+module _ (owner : List ℕ) (k i e : ℕ) where
+  -- it is read as the entry x of that point
+  pub entry-given : (x : Entry) (p : ℕ) → readEntry e ≡ Given x → p ≡ x .point → entriesPass owner k i (e ∷ []) ≡ entryTests owner k i p
+  entry-given x p g h =
+      let q : pointIn e ≡ p = ap (λ (x : Entry). x .point) (sym (given-is e x g)) ∙ sym h in
+      rw (g, q, at-point owner p)
+
+  -- 13: it is marked both
+  pub entry-both : (q : ℕ) → readEntry e ≡ Both q → Refused BothMarks i ≡ answer (entriesPass owner k i (e ∷ []))
+  entry-both q g = rw g
 
 -- 8 of entry i with point q, where point v is next, then the rest
 abbrev pub linkFirst : ℕ → ℕ → ℕ → Result (Unit {0}) → Result (Unit {0})

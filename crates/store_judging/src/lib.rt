@@ -1,10 +1,12 @@
-// The tests of an adding call that need no new places, on the stored owners and links: 21, 5, then entry by entry 6 before 7, then 8, 9.
+// The tests of an adding call that need no new places, on the stored owners and links: 21, 5, then entry by entry 13, 6, 7, then 8, 9.
 // For `store_adding`, which has the arrays of full length that are asked for, and, entry by entry, for `read_orders`.
 use rules::Answer;
+use rules::Reading;
 use rules::Refusal;
 use store_links::Counts;
 use words::broad;
 use words::point_of;
+use words::split;
 ghost use mathlib.Core.Path.{_≡_};
 ghost use mathlib.Core.List.{[], _∷_};
 ghost use Prim.Native.Nat.{_≤_};
@@ -13,12 +15,15 @@ ghost use Rattle.rules.specs.Refusals.{answer};
 ghost use Rattle.store_links.specs.Judging.{entriesPass, runPasses, passes};
 ghost use Rattle.store_links.specs.Runs.{Within};
 
-// 6 and 7 of entry i: its point is one of the k placed, and owned by nobody.
+// 13, 6 and 7 of entry i: it isn't marked both, its point is one of the k placed, and owned by nobody.
 pub fn judge_entry(e: u16, owner: &[u16], k: usize, i: usize) -> Answer
     requires { ⌜ (length (now owner) ≡ 1024) × (k ≤ 1024) ⌝ }
     ensures { λ r. ⌜ r ≡ answer (entriesPass (now (owner .entry)) k i (e ∷ [])) ⌝ }
 {
-    let p = point_of(e);
+    let Reading::Given(x) = split(e) else {
+        return Answer::Refused(Refusal::BothMarks, i);
+    };
+    let p = broad(x.point);
     if p == 0 {
         return Answer::Refused(Refusal::NotPlaced, i);
     }
@@ -31,7 +36,7 @@ pub fn judge_entry(e: u16, owner: &[u16], k: usize, i: usize) -> Answer
     Answer::Accepted
 }
 
-// 6 and 7, entry by entry.
+// 13, 6 and 7, entry by entry.
 fn judge_entries(e: &[u16], owner: &[u16], k: usize) -> Answer
     requires { ⌜ (length (now owner) ≡ 1024) × (k ≤ 1024) ⌝ }
     ensures { λ r. ⌜ r ≡ answer (entriesPass (now (owner .entry)) k 0 (now (e .entry))) ⌝ }

@@ -3,11 +3,12 @@ use Prim.Native.Nat.{ℕ, _<_}
 use mathlib.Core.Path.{_≡_, refl, ap, _∙_}
 use mathlib.Core.List.{List, map}
 use native.Mathlib.Omega.{arith}
-use Rattle.rules.specs.declared.Entry.{Entry}
+use Rattle.rules.specs.declared.Reading.{Reading}
 use Rattle.rules.specs.Refusals.{Result, good, refused, answer, _>>_}
-use Rattle.rules.specs.Entries.{entryOf}
+use Rattle.rules.specs.Entries.{readEntry, pointsRead, givenIn}
+use Rattle.rules.specs.Readings.{entryOf, add-entries}
 use Rattle.rules.specs.Points.{Drawing}
-use Rattle.rules.specs.Adding.{pointsOf, judge, placedNew, addEntries, add}
+use Rattle.rules.specs.Adding.{judge, placedNew, addRead, add}
 use Rattle.rules.specs.Calls.{left}
 use Rattle.store_links.specs.declared.Counts.{Counts}
 use Rattle.store_links.specs.Arrays.{Arrays, Sized, Stores}
@@ -35,14 +36,15 @@ pub record Called (d : Drawing) (a : Arrays) (c : Counts) (es : List ℕ) (j : R
   pub holds : Holds (left d e) (arraysAfter j a c es) (countsAfter j c es)
 
 -- adding goes by its tests
-add-by : (d : Drawing) (es : List Entry) → addEntries d es ≡ (judge d (pointsOf es) >> good (placedNew d es (pointsOf es)))
-unfolding addEntries
-add-by d es = refl
+add-by : (d : Drawing) (rs : List Reading) → addRead d rs ≡ (judge d rs >> good (placedNew d (givenIn rs) (pointsRead rs)))
+unfolding addRead
+add-by d rs = refl
 
 module _ {d : Drawing} {a : Arrays} {c : Counts} (h : Holds d a c) (es : List ℕ) where
   -- accepted: the drawing with the new point
-  taken : (e : Drawing) → addEntries d (map entryOf es) ≡ good e → Holds e (withPoint a c es (spotFor a es) (changeFor a es)) (countsAfter (good tt) c es)
-  taken e q =
+  taken : (e : Drawing) → add d es ≡ good e → Holds e (withPoint a c es (spotFor a es) (changeFor a es)) (countsAfter (good tt) c es)
+  taken e given =
+      let q = add-entries d e es given in
       let s = h .standing .sound in
       let t = h .stores in
       let k = accepted d e (map entryOf es) q in
@@ -56,16 +58,18 @@ module _ {d : Drawing} {a : Arrays} {c : Counts} (h : Holds d a c) (es : List �
             (spotted es t s (k .run)) (lines-fit d es (k .l) (k .r) s room (k .run)));
       }
 
-  by-test : (j : Result (Unit {0})) → judge d (pointsOf (map entryOf es)) ≡ j → Called d a c es j (j >> good (placedNew d (map entryOf es) (pointsOf (map entryOf es))))
-  by-test (good t) q =
-      record {
-        answers = refl;
-        holds = taken (placedNew d (map entryOf es) (pointsOf (map entryOf es))) (add-by d (map entryOf es) ∙ ap (λ j. j >> good (placedNew d (map entryOf es) (pointsOf (map entryOf es)))) q);
-      }
+  abbrev rs : List Reading
+  rs = map readEntry es
+
+  abbrev new : Drawing
+  new = placedNew d (givenIn rs) (pointsRead rs)
+
+  by-test : (j : Result (Unit {0})) → judge d rs ≡ j → Called d a c es j (j >> good new)
+  by-test (good t) q = record { answers = refl; holds = taken new (add-by d rs ∙ ap (λ j. j >> good new) q) }
   by-test (refused r p) q = record { answers = refl; holds = h }
 
   -- the call as a whole
   pub called : Called d a c es (judged a c es) (add d es)
   called =
-      rw (judged-is (h .stores) (h .standing .sound) es, add-by d (map entryOf es))
-      (by-test (judge d (pointsOf (map entryOf es))) refl)
+      rw (judged-is (h .stores) (h .standing .sound) es, add-by d rs)
+      (by-test (judge d rs) refl)

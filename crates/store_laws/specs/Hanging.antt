@@ -9,7 +9,7 @@ use native.Mathlib.Decide.{ℕ-discrete}
 use lib.ListN.{getD}
 use Rattle.rules.specs.Basics.{indexOf}
 use Rattle.rules.specs.Points.{Drawing, xOf, ownerOf, w, m}
-use Rattle.rules.specs.Entries.{entryOf}
+use Rattle.rules.specs.Readings.{entryOf}
 use Rattle.rules.specs.Adding.{inside}
 use Rattle.rules.specs.Moving.{column}
 use Rattle.net.specs.Amounts.{moves}

@@ -1,19 +1,19 @@
 -- The lines after an accepted call: the old ones as they were stored, and behind them one for each entry.
 use Prim.Native.Nat.{ℕ, zero, suc, pred, _+_, _-_, _<_}
 use mathlib.Core.Path.{_≡_, refl, ap, sym, _∙_}
-use mathlib.Core.Bool.{false}
 use mathlib.Core.List.{List, [], _∷_, _++_, map}
 use native.Mathlib.Nat.{le-of-suc-le-suc, not-suc-le-zero, add-zero, add-suc, suc-add, zero-add}
 use native.Mathlib.Omega.{arith}
 use native.Mathlib.Decide.{decLt}
 use lib.ListN.{length, getD, List·getD-append, length-map}
 use lib.Seq.{getD-append-add}
+use Rattle.rules.specs.declared.Kind.the-variants.{Guide}
 use Rattle.rules.specs.declared.Line.{Line}
 use Rattle.rules.specs.declared.Bend.{Bend}
 use Rattle.rules.specs.declared.Bend.the-variants.{Straight}
-use Rattle.rules.specs.Basics.{if_then_else_, nth, grow}
+use Rattle.rules.specs.Basics.{nth, grow}
 use Rattle.rules.specs.Points.{Drawing, dlOf, drOf, w, lineAt}
-use Rattle.rules.specs.Entries.{entryOf}
+use Rattle.rules.specs.Readings.{entryOf}
 use Rattle.rules.specs.Lengths.{length-call, first-at}
 use Rattle.rules.specs.Adding.{pointsOf, newLines, newBend, D}
 use Rattle.store_links.specs.declared.Spot.{Spot}
@@ -32,11 +32,11 @@ use Rattle.store_laws.specs.Points.{Call, after, first-w, last-w, lm, w-
 
 -- the line of the entry that is the number e, to the new point, with a bend
 abbrev lineOf : ℕ → Bend → ℕ → Line
-lineOf new b e = record { later = new; earlier = entryOf e .point; bend = b; cut = entryOf e .cut }
+lineOf new b e = record { later = new; earlier = entryOf e .point; bend = b; kind = entryOf e .kind }
 
 -- what `lineAt` gives where there is no line
 abbrev noLine : Line
-noLine = record { later = 0; earlier = 0; bend = Straight; cut = false }
+noLine = record { later = 0; earlier = 0; bend = Straight; kind = Guide }
 
 -- The new lines, read by index.
 getD-new : (new : ℕ) (f : ℕ → Bend) (q : ℕ) (es : List ℕ) (i : ℕ) (z : Line) → i < length es →
@@ -122,12 +122,12 @@ module _ {d : Drawing} {a : Arrays} {c : Counts} {es : List ℕ} {l r : ℕ} {p 
 
   -- The entries are the next drawing's.
   pub entry-kept : (e : ℕ) → e < length (after d es l r .lines) →
-      entryOf (getD (withPoint a c es p from .words) e 0) ≡ record { point = lineAt (after d es l r) e .earlier; cut = lineAt (after d es l r) e .cut }
+      entryOf (getD (withPoint a c es p from .words) e 0) ≡ record { point = lineAt (after d es l r) e .earlier; kind = lineAt (after d es l r) e .kind }
   unfolding withPoint
   entry-kept e b = go (seen e b)
     where
       go : Seen d es l r e →
-          entryOf (getD (filled (λ i. getD es i 0) (a .words) (c .lines) (length es)) e 0) ≡ record { point = lineAt (after d es l r) e .earlier; cut = lineAt (after d es l r) e .cut }
+          entryOf (getD (filled (λ i. getD es i 0) (a .words) (c .lines) (length es)) e 0) ≡ record { point = lineAt (after d es l r) e .earlier; kind = lineAt (after d es l r) e .kind }
       go (was k t) = rw (old-number (λ i. getD es i 0) (a .words) e k, t) (h .stores .entry e k)
       go (comes i ib s t) = rw (new-number (λ i. getD es i 0) (a .words) e i (h .sized .words) ib s, t)
 

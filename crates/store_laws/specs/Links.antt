@@ -6,7 +6,7 @@ use mathlib.Core.List.{List, map}
 use native.Mathlib.Omega.{arith}
 use lib.ListN.{length}
 use Rattle.rules.specs.Points.{Drawing, xOf, w, m}
-use Rattle.rules.specs.Entries.{entryOf}
+use Rattle.rules.specs.Readings.{entryOf}
 use Rattle.net.specs.Amounts.{moves, Shift, none, some, all, shift}
 use Rattle.store_links.specs.declared.Spot.{Spot}
 use Rattle.store_links.specs.declared.Counts.{Counts}

@@ -1,16 +1,16 @@
 -- The arrays as opened store the drawing as opened.
 use Prim.Native.Nat.{ℕ, zero, suc, _<_, _≤_, _+_}
 use mathlib.Core.Path.{_≡_, refl}
-use mathlib.Core.Bool.{Bool}
 use native.Mathlib.Omega.{arith}
 use lib.ListN.{getD}
-use Rattle.rules.specs.Entries.{entryOf}
+use Rattle.rules.specs.declared.Kind.{Kind}
+use Rattle.rules.specs.Readings.{entryOf}
 use Rattle.rules.specs.Points.{Drawing, xOf, ownerOf, w, lineAt, start}
 use Rattle.store_links.specs.Codes.{bendCode}
 use Rattle.store_links.specs.Arrays.{Sized, Stores, atPoint, gapOffset}
 use Rattle.store_links.specs.Opening.{openArrays, openCounts}
 
-module _ (n s : ℕ) (c1 c2 c3 : Bool) (a b c : ℕ) where
+module _ (n s : ℕ) (c1 c2 c3 : Kind) (a b c : ℕ) where
   abbrev d : Drawing
   d = start n s c1 c2 c3
 
@@ -18,7 +18,7 @@ module _ (n s : ℕ) (c1 c2 c3 : Bool) (a b c : ℕ) where
   unfolding openArrays
   sized-open = record { next = refl; gap = refl; owner = refl; ys = refl; dls = refl; drs = refl; hs = refl; words = refl; later = refl; bends = refl }
 
-  module _ (h1 : entryOf a ≡ record { point = 1; cut = c1 }) (h2 : entryOf b ≡ record { point = 1; cut = c2 }) (h3 : entryOf c ≡ record { point = 2; cut = c3 }) where
+  module _ (h1 : entryOf a ≡ record { point = 1; kind = c1 }) (h2 : entryOf b ≡ record { point = 1; kind = c2 }) (h3 : entryOf c ≡ record { point = 2; kind = c3 }) where
     link : (i : ℕ) → suc i < 3 → atPoint (openArrays a b c .next) (w d i) ≡ w d (suc i)
     unfolding openArrays
     link zero h = refl
@@ -44,7 +44,7 @@ module _ (n s : ℕ) (c1 c2 c3 : Bool) (a b c : ℕ) where
     later (suc (suc zero)) h = refl
     later (suc (suc (suc e))) h = absurd (omega arith)
 
-    entry : (e : ℕ) → e < 3 → entryOf (getD (openArrays a b c .words) e 0) ≡ record { point = lineAt d e .earlier; cut = lineAt d e .cut }
+    entry : (e : ℕ) → e < 3 → entryOf (getD (openArrays a b c .words) e 0) ≡ record { point = lineAt d e .earlier; kind = lineAt d e .kind }
     unfolding openArrays
     entry zero h = h1
     entry (suc zero) h = h2

@@ -10,7 +10,7 @@ use lib.ListN.{length, getD, take, set}
 use lib.Seq.{take-suc-set, take-set-lt, set-append-left, length-take-le, getD-take, ext-getD}
 use Rattle.rules.specs.Basics.{grow, snoc, indexOf}
 use Rattle.rules.specs.Points.{Drawing, w, m}
-use Rattle.rules.specs.Entries.{entryOf}
+use Rattle.rules.specs.Readings.{entryOf}
 use Rattle.rules.specs.Lengths.{length-call, length-snoc, first-at}
 use Rattle.rules.specs.Adding.{spread, newY, inside, owned}
 use Rattle.net.specs.Side.{rt, lf}

@@ -13,8 +13,9 @@ use Rattle.rules.specs.Refusals.{refuseIf}
 use Rattle.rules.specs.Results.{then-same}
 use Rattle.rules.specs.Lengths.{length-call}
 use Rattle.rules.specs.Points.{Drawing, xOf, yOf, w}
-use Rattle.rules.specs.Entries.{entryOf}
-use Rattle.rules.specs.Adding.{spread, newX, newY, inner, rowHeight, reaches, change, allReach, pointsOf, callTests, judge}
+use Rattle.rules.specs.Entries.{readEntry}
+use Rattle.rules.specs.Readings.{entryOf, points-read, judge-of}
+use Rattle.rules.specs.Adding.{spread, newX, newY, inner, rowHeight, reaches, change, allReach, callTests, judge}
 use Rattle.store_links.specs.declared.Counts.{Counts}
 use Rattle.store_links.specs.declared.Spot.{Spot}
 use Rattle.store_links.specs.Arrays.{Arrays, Stores, atPoint}
@@ -142,8 +143,9 @@ module _ {d : Drawing} {a : Arrays} {c : Counts} (es : List ℕ) {l r : ℕ} (t 
       }
 
 -- The code judges a call as the rules do.
-pub judged-is : {d : Drawing} {a : Arrays} {c : Counts} → Stores d a c → Sound d → (es : List ℕ) → judged a c es ≡ judge d (pointsOf (map entryOf es))
-unfolding judged judge
+pub judged-is : {d : Drawing} {a : Arrays} {c : Counts} → Stores d a c → Sound d → (es : List ℕ) → judged a c es ≡ judge d (map readEntry es)
+unfolding judged
 judged-is {d} {a} {c} t s es =
-    then-same (passes (a .owner) (a .next) (c .n) (c .k) (c .m) es) (callTests d (runOf es)) _ _ (passes-is t s es)
-    (λ h. ap (λ b. refuseIf (not b) NoReach 0) (reach-is es t s (tests-passed d (map entryOf es) (sym (passes-is t s es) ∙ h) .run)))
+    then-same (passes (a .owner) (a .next) (c .n) (c .k) (c .m) es) (callTests d (map readEntry es)) _ _ (passes-is t s es)
+    (λ h. ap (λ b. refuseIf (not b) NoReach 0) (reach-is es t s (tests-passed d (map readEntry es) (map entryOf es) (points-read es) (sym (passes-is t s es) ∙ h) .run))) ∙
+    sym (judge-of d (map readEntry es) (runOf es) (points-read es))

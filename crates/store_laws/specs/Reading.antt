@@ -5,7 +5,7 @@ use mathlib.Core.List.{List, [], _∷_, map}
 use native.Mathlib.Omega.{arith}
 use lib.ListN.{length, getD, take, length-map}
 use Rattle.rules.specs.Points.{Drawing, xOf, yOf, dlOf, drOf, ownerOf, w}
-use Rattle.rules.specs.Entries.{entryOf}
+use Rattle.rules.specs.Readings.{entryOf}
 use Rattle.rules.specs.Lengths.{first-at}
 use Rattle.rules.specs.Adding.{pointsOf}
 use Rattle.store_links.specs.declared.Counts.{Counts}

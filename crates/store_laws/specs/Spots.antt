@@ -7,7 +7,7 @@ use native.Mathlib.Decide.{ℕ-discrete}
 use lib.ListN.{length}
 use lib.Dec.{eqb}
 use Rattle.rules.specs.Points.{Drawing, xOf, yOf, dlOf, drOf, placeOf, w, W}
-use Rattle.rules.specs.Entries.{entryOf}
+use Rattle.rules.specs.Readings.{entryOf}
 use Rattle.rules.specs.Adding.{spread, newX, newY, A, B, s3, step1, step2}
 use Rattle.store_links.specs.declared.Counts.{Counts}
 use Rattle.store_links.specs.declared.Spot.{Spot}

@@ -4,7 +4,7 @@ use mathlib.Core.Path.{_≡_}
 use mathlib.Core.List.{List, map}
 use lib.ListN.{length}
 use Rattle.rules.specs.Points.{Drawing, xOf, w}
-use Rattle.rules.specs.Entries.{entryOf}
+use Rattle.rules.specs.Readings.{entryOf}
 use Rattle.rules.specs.Adding.{spread, newX, newY}
 use Rattle.store_links.specs.declared.Spot.{Spot}
 use Rattle.promise.specs.Moved.{amount1}

@@ -5,7 +5,7 @@ use mathlib.Core.List.{List, map}
 use native.Mathlib.Omega.{arith}
 use lib.ListN.{length, getD, length-map}
 use Rattle.rules.specs.Points.{Drawing, m}
-use Rattle.rules.specs.Entries.{entryOf}
+use Rattle.rules.specs.Readings.{entryOf}
 use Rattle.store_links.specs.declared.Spot.{Spot}
 use Rattle.store_links.specs.declared.Counts.{Counts}
 use Rattle.store_links.specs.Arrays.{Arrays, Sized, Stores, atPoint}

@@ -1,4 +1,4 @@
--- The tests before 25 (21, 5, 6, 7, 8, 9) on owners and links are those of the rules, and what the entries of a call that passes them are known to be.
+-- The tests before 25 (21, 5, 13, 6, 7, 8, 9) on owners and links are those of the rules, and what the entries of a call that passes them are known to be.
 use Prim.Native.Nat.{ℕ, zero, suc, pred, _+_, _-_, _<_, _≤_}
 use mathlib.Core.Path.{_≡_, refl, sym, ap, ap₂, _∙_}
 use mathlib.Core.Logic.{_≢_}
@@ -10,13 +10,14 @@ use lib.ListN.{length, drop, drop-of-length-le}
 use lib.Seq.{drop-cons}
 use lib.Dec.{leb, ltb, eqb, leb·suc-suc}
 use borrow.Author.Tests.{ltb-true, ltb-false, eqb-true, eqb-false, lt-ltb, eq-eqb, ne-eqb, not-false}
-use Rattle.rules.specs.declared.Refusal.the-variants.{Finished, FewEntries, NotPlaced, Covered, NoRun, NotWhole}
+use Rattle.rules.specs.declared.Refusal.the-variants.{Finished, FewEntries, BothMarks, NotPlaced, Covered, NoRun, NotWhole}
 use Rattle.rules.specs.Basics.{if_then_else_, elem, indexOf}
 use Rattle.rules.specs.Refusals.{good, _>>_, refuseIf}
 use Rattle.rules.specs.Bools.{neither}
 use Rattle.rules.specs.Results.{test-false, tested, then-same}
 use Rattle.rules.specs.Lengths.{length-call}
-use Rattle.rules.specs.Entries.{entryOf}
+use Rattle.rules.specs.Entries.{readEntry, isBoth}
+use Rattle.rules.specs.Readings.{entryOf, point-is, points-read, tests-of}
 use Rattle.rules.specs.Points.{Drawing, ownerOf, w, m}
 use Rattle.rules.specs.Moving.{column}
 use Rattle.rules.specs.Adding.{lOf, pointsOf, entryTests, runTests, callTests}
@@ -68,11 +69,12 @@ placed-test k p h =
     let n : ¬ (p ≡ 0) = eqb-false p 0 (t .0) in
     (omega arith, ltb-false k p (t .1))
 
--- 6 and 7 passed for every entry.
+-- 13, 6 and 7 passed for every entry.
 entries-stand : (owner : List ℕ) (k i : ℕ) (es : List ℕ) → entriesPass owner k i es ≡ good tt → (j : ℕ) → j < length es → Stands owner k (entryPoint es j)
 entries-stand owner k i [] h j b = absurd (omega arith)
 entries-stand owner k i (e ∷ es) h j b =
-    let h6 = tested (eqb (pointIn e) 0 || ltb k (pointIn e)) NotPlaced i _ tt h in
+    let h13 = tested (isBoth (readEntry e)) BothMarks i _ tt h in
+    let h6 = tested (eqb (pointIn e) 0 || ltb k (pointIn e)) NotPlaced i _ tt (h13 .last) in
     let h7 = tested (not (eqb (atPoint owner (pointIn e)) 0)) Covered i _ tt (h6 .last) in
     go j b (placed-test k (pointIn e) (h6 .passed)) (eqb-true (atPoint owner (pointIn e)) 0 (not-false _ (h7 .passed)))
     (entries-stand owner k (suc i) es (h7 .last))
@@ -88,17 +90,19 @@ module _ {d : Drawing} {a : Arrays} {c : Counts} (t : Stores d a c) (s : Sound d
   covered-same zero low high = absurd (omega arith)
   covered-same (suc p) low high = ap (λ o. eqb o 0) (owner-at t (suc p) low high) ∙ sym (elem-owner s p high)
 
-  -- 6 and 7, entry by entry.
-  pub entries-same : (i : ℕ) (es : List ℕ) → entriesPass (a .owner) (c .k) i es ≡ entryTests d i (pointsOf (map entryOf es))
+  -- 13, 6 and 7, entry by entry.
+  pub entries-same : (i : ℕ) (es : List ℕ) → entriesPass (a .owner) (c .k) i es ≡ entryTests d i (map readEntry es)
   entries-same i [] = refl
   entries-same i (e ∷ es) =
       let p = pointIn e in
-      then-same (refuseIf (eqb p 0 || ltb (c .k) p) NotPlaced i) (refuseIf (eqb p 0 || ltb (d .k) p) NotPlaced i) _ _
+      then-same (refuseIf (isBoth (readEntry e)) BothMarks i) (refuseIf (isBoth (readEntry e)) BothMarks i) _ _ refl
+      (λ h13. rw (point-is e)
+      (then-same (refuseIf (eqb p 0 || ltb (c .k) p) NotPlaced i) (refuseIf (eqb p 0 || ltb (d .k) p) NotPlaced i) _ _
       (ap (λ k. refuseIf (eqb p 0 || ltb k p) NotPlaced i) (t .k))
       (λ h. let b = placed-test (c .k) p (test-false _ NotPlaced i h) in
       then-same (refuseIf (not (eqb (atPoint (a .owner) p) 0)) Covered i) (refuseIf (not (elem p (d .boundary))) Covered i) _ _
       (ap (λ u. refuseIf (not u) Covered i) (covered-same p (b .0) (omega (arith, t .k))))
-      (λ h′. entries-same (suc i) es))
+      (λ h′. entries-same (suc i) es))))
 
   -- ---- 8: the links go along the boundary
 
@@ -141,7 +145,7 @@ module _ {d : Drawing} {a : Arrays} {c : Counts} (t : Stores d a c) (s : Sound d
           (ne-eqb (pointIn e) (atPoint (a .next) (w d j)) (λ f. omega (arith, f, link-last j b, g 0 (omega arith)))) ∙
           sym (ap (λ ws. runTests i ws (pointIn e ∷ ps)) (drop-of-length-le (d .boundary) {i = suc j} (omega arith)))
 
-  -- 8 of entries that passed 6 and 7: the first one always matches itself.
+  -- 8 of entries that passed 13, 6 and 7: the first one always matches itself.
   run-same : (es : List ℕ) → ((n : ℕ) → n < length es → Stands (a .owner) (d .k) (entryPoint es n)) →
       runPasses (a .next) es ≡ runTests 0 (drop (lOf d (pointsOf (map entryOf es))) (d .boundary)) (pointsOf (map entryOf es))
   run-same [] g = refl
@@ -167,15 +171,16 @@ module _ {d : Drawing} {a : Arrays} {c : Counts} (t : Stores d a c) (s : Sound d
       front = drop-cons (d .boundary) l 0 in-l
 
   -- The tests on owners and links are those of the rules before 25.
-  pub passes-is : (es : List ℕ) → passes (a .owner) (a .next) (c .n) (c .k) (c .m) es ≡ callTests d (pointsOf (map entryOf es))
-  unfolding passes callTests
+  pub passes-is : (es : List ℕ) → passes (a .owner) (a .next) (c .n) (c .k) (c .m) es ≡ callTests d (map readEntry es)
+  unfolding passes
   passes-is es =
       let run = pointsOf (map entryOf es) in
       then-same (refuseIf (leb (c .n) (c .k)) Finished 0) _ _ _ (ap₂ (λ n k. refuseIf (leb n k) Finished 0) (t .n) (t .k))
       (λ h21. then-same (refuseIf (ltb (length es) 2) FewEntries 0) _ _ _ (ap (λ n. refuseIf (ltb n 2) FewEntries 0) (sym (length-call es)))
       (λ h5. then-same (entriesPass (a .owner) (c .k) 0 es) _ _ _ (entries-same 0 es)
       (λ h6. then-same (runPasses (a .next) es) _ _ _ (run-same es (λ n b. rw (← t .k) (entries-stand (a .owner) (c .k) 0 es h6 n b)))
-      (λ h8. whole-same (length es) (length run) (sym (length-call es))))))
+      (λ h8. whole-same (length es) (length run) (sym (length-call es)))))) ∙
+      sym (tests-of d (map readEntry es) run (points-read es))
     where
       whole-same : (j j′ : ℕ) → j ≡ j′ → refuseIf (eqb (c .k + 1) (c .n) && not (eqb j (c .m))) NotWhole 0 ≡ refuseIf (eqb (d .k + 1) (d .n) && not (eqb j′ (m d))) NotWhole 0
       whole-same j j′ e = cc (t .k, t .n, t .m)

@@ -2,7 +2,7 @@
 use Prim.Native.Nat.{ℕ}
 use lib.ListN.{getD}
 use Rattle.rules.specs.declared.Line.{Line}
-use Rattle.rules.specs.Entries.{entryOf}
+use Rattle.rules.specs.Readings.{entryOf}
 use Rattle.store_links.specs.Arrays.{Arrays}
 use Rattle.store_links.specs.Codes.{bendFrom}
 
@@ -13,5 +13,5 @@ lineIn a e =
       later = getD (a .later) e 0;
       earlier = entryOf (getD (a .words) e 0) .point;
       bend = bendFrom (getD (a .bends) e 0);
-      cut = entryOf (getD (a .words) e 0) .cut;
+      kind = entryOf (getD (a .words) e 0) .kind;
     }

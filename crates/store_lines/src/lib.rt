@@ -18,13 +18,15 @@ pub fn line_in(table: &[u16], e: usize) -> Line
     ensures { λ r. ⌜ r ≡ lineIn (arraysIn (now (table .entry))) e ⌝ }
 {
     let word = table[WORDS + e];
-    let x = words::split(word);
+    let later = table[LATER + e];
+    let x = words::entry_of(word);
+    let kind = x.kind;
     let bend = bend_from(table[BENDS + e]);
     Line {
-        later: table[LATER + e],
+        later,
         earlier: x.point,
         bend,
-        cut: x.cut,
+        kind,
     }
 }
 

@@ -3,7 +3,7 @@ use Prim.Native.Nat.{ℕ, suc, pred, _+_, _<_, _≤_}
 use mathlib.Core.Path.{_≡_}
 use mathlib.Core.List.{List}
 use lib.ListN.{length, getD, take}
-use Rattle.rules.specs.Entries.{entryOf}
+use Rattle.rules.specs.Readings.{entryOf}
 use Rattle.rules.specs.Points.{Drawing, xOf, ownerOf, w, m, lineAt}
 use Rattle.store_links.specs.declared.Counts.{Counts}
 use Rattle.store_links.specs.Codes.{bendCode}
@@ -80,5 +80,5 @@ pub record Stores (d : Drawing) (a : Arrays) (c : Counts) : Type 0 where
   pub hang : (p o : ℕ) → suc p ≤ d .k → ownerOf d (suc p) ≡ suc o → xOf d (suc p) + gapOffset ≡ xOf d (suc o) + atPoint (a .gap) (suc p)
   -- the lines
   pub later : (e : ℕ) → e < length (d .lines) → getD (a .later) e 0 ≡ lineAt d e .later
-  pub entry : (e : ℕ) → e < length (d .lines) → entryOf (getD (a .words) e 0) ≡ record { point = lineAt d e .earlier; cut = lineAt d e .cut }
+  pub entry : (e : ℕ) → e < length (d .lines) → entryOf (getD (a .words) e 0) ≡ record { point = lineAt d e .earlier; kind = lineAt d e .kind }
   pub bend : (e : ℕ) → e < length (d .lines) → getD (a .bends) e 0 ≡ bendCode (lineAt d e .bend)

@@ -1,22 +1,24 @@
--- The tests of an adding call that need no new places, on owners and links: 21, 5, then entry by entry 6 before 7, then 8, 9.
+-- The tests of an adding call that need no new places, on owners and links: 21, 5, then entry by entry 13, 6, 7, then 8, 9.
 use Prim.Native.Nat.{ℕ, suc, _+_}
 use mathlib.Core.Bool.{not, _&&_, _||_}
 use mathlib.Core.List.{List, [], _∷_}
 use lib.ListN.{length}
 use lib.Dec.{leb, ltb, eqb}
-use Rattle.rules.specs.declared.Refusal.the-variants.{Finished, FewEntries, NotPlaced, Covered, NoRun, NotWhole}
+use Rattle.rules.specs.declared.Refusal.the-variants.{Finished, FewEntries, BothMarks, NotPlaced, Covered, NoRun, NotWhole}
 use Rattle.rules.specs.Refusals.{Result, good, _>>_, refuseIf}
-use Rattle.rules.specs.Entries.{entryOf}
+use Rattle.rules.specs.Entries.{readEntry, isBoth}
+use Rattle.rules.specs.Readings.{entryOf}
 use Rattle.store_links.specs.Arrays.{atPoint}
 
 -- the earlier point of an entry
 abbrev pub pointIn : ℕ → ℕ
 pointIn e = entryOf e .point
 
--- entries i, i + 1, ..: placed, and owned by nobody
+-- entries i, i + 1, ..: not marked both, placed, and owned by nobody
 abbrev pub entriesPass : List ℕ → ℕ → ℕ → List ℕ → Result (Unit {0})
 entriesPass owner k i [] = good tt
 entriesPass owner k i (e ∷ es) = do
+  refuseIf (isBoth (readEntry e)) BothMarks i
   refuseIf (eqb (pointIn e) 0 || ltb k (pointIn e)) NotPlaced i
   refuseIf (not (eqb (atPoint owner (pointIn e)) 0)) Covered i
   entriesPass owner k (suc i) es

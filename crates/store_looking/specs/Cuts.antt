@@ -10,7 +10,8 @@ use Rattle.rules.specs.declared.Entry.{Entry}
 use Rattle.rules.specs.declared.Refusal.the-variants.{NoSuch}
 use Rattle.rules.specs.Basics.{between}
 use Rattle.rules.specs.Bools.{both}
-use Rattle.rules.specs.Entries.{entryOf}
+use Rattle.rules.specs.Entries.{isCut}
+use Rattle.rules.specs.Readings.{entryOf}
 use Rattle.rules.specs.Points.{Drawing as Plan, lineAt}
 use Rattle.rules.specs.Demand.{endsAt}
 use Rattle.rules.specs.Lookups.{CutLineAt, LooksCut}
@@ -22,17 +23,17 @@ use Rattle.answers.specs.Told.{toldCut}
 
 -- a line with this entry and this later point is cut and ends at p
 abbrev pub cutTo : Entry → ℕ → ℕ → Bool
-cutTo x later p = x .cut && (eqb later p || eqb (x .point) p)
+cutTo x later p = isCut (x .kind) && (eqb later p || eqb (x .point) p)
 
 -- the three ways of the test
 module _ (x : Entry) (later p : ℕ) where
-  pub cut-later : x .cut ≡ true → later ≡ p → eqb later p ≡ cutTo x later p
+  pub cut-later : isCut (x .kind) ≡ true → later ≡ p → eqb later p ≡ cutTo x later p
   cut-later a b = rw (a, eq-eqb later p b)
 
-  pub cut-earlier : x .cut ≡ true → (later ≡ p → ⊥) → eqb (x .point) p ≡ cutTo x later p
+  pub cut-earlier : isCut (x .kind) ≡ true → (later ≡ p → ⊥) → eqb (x .point) p ≡ cutTo x later p
   cut-earlier a b = rw (a, ne-eqb later p b)
 
-  pub cut-guide : x .cut ≡ false → x .cut ≡ cutTo x later p
+  pub cut-guide : isCut (x .kind) ≡ false → isCut (x .kind) ≡ cutTo x later p
   cut-guide a = rw a
 
 -- line e of the arrays is
@@ -47,11 +48,11 @@ pub record FirstCut (a : Arrays) (lines p r : ℕ) : Type 0 where
 
 module _ {q : Plan} {a : Arrays} {c : Counts} (h : Holds q a c) (p : ℕ) where
   -- The test on the arrays is the rules' on the drawing.
-  cut-is : (e : ℕ) → e < length (q .lines) → cutAt a p e ≡ (lineAt q e .cut && endsAt p (lineAt q e))
+  cut-is : (e : ℕ) → e < length (q .lines) → cutAt a p e ≡ (isCut (lineAt q e .kind) && endsAt p (lineAt q e))
   unfolding cutAt
   cut-is e el =
       let t = h .stores .entry e el in
-      rw (h .stores .later e el, ap (λ (x : Entry). x .point) t, ap (λ (x : Entry). x .cut) t)
+      rw (h .stores .later e el, ap (λ (x : Entry). x .point) t, ap (λ (x : Entry). x .kind) t)
 
   module _ (r : ℕ) (f : FirstCut a (c .lines) p r) (is : between 1 (c .k) p ≡ true) where
     point-there : between 1 (q .k) p ≡ true
@@ -61,8 +62,8 @@ module _ {q : Plan} {a : Arrays} {c : Counts} (h : Holds q a c) (p : ℕ) where
     pub finds : r < c .lines → LooksCut q p (toldCut (Cut.Line r))
     finds b =
         let el : r < length (q .lines) = omega (arith, h .stores .lines) in
-        let t = both (lineAt q r .cut) (endsAt p (lineAt q r)) (sym (cut-is r el) ∙ f .found b) in
-        (point-there, record { there = el; isCut = t .0; ends = t .1 })
+        let t = both (isCut (lineAt q r .kind)) (endsAt p (lineAt q r)) (sym (cut-is r el) ∙ f .found b) in
+        (point-there, record { there = el; cuts = t .0; ends = t .1 })
 
     -- Where none was found there is none.
     pub finds-none : c .lines ≤ r → LooksCut q p (toldCut Cut.Nothing)
@@ -71,7 +72,7 @@ module _ {q : Plan} {a : Arrays} {c : Counts} (h : Holds q a c) (p : ℕ) where
         none : (e : ℕ) → CutLineAt q p e → ⊥
         none e t =
             let z : cutAt a p e ≡ false = f .before e (omega (arith, t .there, h .stores .lines)) in
-            let y : cutAt a p e ≡ true = cut-is e (t .there) ∙ rw (t .isCut, t .ends) in
+            let y : cutAt a p e ≡ true = cut-is e (t .there) ∙ rw (t .cuts, t .ends) in
             let x : _≡_ {A = ℕ} 0 1 = cc in
             omega arith
 

@@ -14,7 +14,7 @@ use store_tables::YS;
 ghost use mathlib.Core.Path.{_≡_};
 ghost use Prim.Native.Nat.{_≤_};
 ghost use Rattle.rules.specs.Basics.{between};
-ghost use Rattle.rules.specs.Entries.{entryOf};
+ghost use Rattle.rules.specs.Readings.{entryOf};
 ghost use Rattle.rules.specs.Points.{Drawing as Plan};
 ghost use Rattle.rules.specs.Lookups.{lookPoint, lookLine, LooksCut};
 ghost use Rattle.answers.specs.Told.{pointSeen, lineSeen, toldCut};
@@ -57,7 +57,7 @@ pub fn look_point(table: &Table, x: &[u16; POINTS], c: Counts, p: usize) -> Poin
     })
 }
 
-// A line with its ends, bend and cut flag, and where its bend lies, from the table and its settled x.
+// A line with its ends, bend and kind, and where its bend lies, from the table and its settled x.
 pub fn look_line(table: &Table, x: &[u16; POINTS], c: Counts, e: usize) -> LineSeen
     requires { ⌜ Looks c (now table) (now x) ⌝ }
     ensures { λ r. ⌜ ((q : Plan) → Holds q (arraysIn (now (table .entry))) c → r ≡ lineSeen (lookLine q e)) ⌝ }
@@ -77,8 +77,9 @@ pub fn look_line(table: &Table, x: &[u16; POINTS], c: Counts, e: usize) -> LineS
 fn is_cut_to(word: u16, later: u16, p: usize) -> bool
     ensures { λ r. ⌜ r ≡ cutTo (entryOf word) later p ⌝ }
 {
-    let x = words::split(word);
-    x.cut && (words::broad(later) == p || words::broad(x.point) == p)
+    let x = words::entry_of(word);
+    let kind = x.kind;
+    words::is_cut(kind) && (words::broad(later) == p || words::broad(x.point) == p)
 }
 
 // The first cut line that ends at p, or the number of lines.

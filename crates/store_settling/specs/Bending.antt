@@ -11,7 +11,7 @@ use Rattle.rules.specs.Ports.{bendOf}
 use Rattle.net.specs.Side.{rt, lf}
 use Rattle.net.specs.Frame.{point-in}
 use Rattle.net.specs.Ports.{aside-of}
-use Rattle.promise.specs.Nets.{kindOf}
+use Rattle.promise.specs.Nets.{bendKind}
 use Rattle.promise.specs.Sound.{Sound}
 use Rattle.store_links.specs.declared.Counts.{Counts}
 use Rattle.rules.specs.Lengths.{first-at}
@@ -70,15 +70,15 @@ module _ {d : Drawing} {xs : List ℕ} {a : Arrays} (s : Shows d xs a) where
     fits-by : (b : Bend) → lineAt d e .bend ≡ b → Seen (lineAt d e .later) → Seen (lineAt d e .earlier) →
         PortFits xs a (lineAt d e .later) (lineAt d e .earlier) b
     fits-by (Left j) q v u =
-        let t = sound .inv .slopes .slope lf j e el (ap kindOf q) in
-        let f = aside-of _ (ap kindOf q) (sound .inv .core .lines .fits e el) in
+        let t = sound .inv .slopes .slope lf j e el (ap bendKind q) in
+        let f = aside-of _ (ap bendKind q) (sound .inv .core .lines .fits e el) in
         omega (arith, in-frame, f .2)
     fits-by (Right j) q v u =
-        let t = sound .inv .slopes .slope rt j e el (ap kindOf q) in
-        let f = aside-of _ (ap kindOf q) (sound .inv .core .lines .fits e el) in
+        let t = sound .inv .slopes .slope rt j e el (ap bendKind q) in
+        let f = aside-of _ (ap bendKind q) (sound .inv .core .lines .fits e el) in
         omega (arith, in-frame, f .2)
     fits-by (Middle i) q v u =
-        let t = sound .inv .slopes .reach i e el (ap kindOf q) in
+        let t = sound .inv .slopes .reach i e el (ap bendKind q) in
         omega (arith, in-frame, sound .inv .core .points .frame (pred (lineAt d e .later)) (sound .inv .core .lines .ends e el .1))
     fits-by Straight q v u = tt
 

@@ -18,7 +18,7 @@ module _ {d : Drawing} (h : Standing d) (e : ℕ) (el : e < length (d .lines)) w
       let v = s .later e el in
       let u = s .entry e el in
       let b : bendFrom (getD (a .bends) e 0) ≡ lineAt d e .bend = ap bendFrom (s .bend e el) ∙ bend-back (lineAt d e .bend) (indexed d h e el) in
-      λ i. record { later = v i; earlier = u i .point; bend = b i; cut = u i .cut }
+      λ i. record { later = v i; earlier = u i .point; bend = b i; kind = u i .kind }
 
   -- Its ends are placed points.
   pub ends : (0 < lineAt d e .later) × (lineAt d e .later ≤ d .k) × (0 < lineAt d e .earlier) × (lineAt d e .earlier ≤ d .k)

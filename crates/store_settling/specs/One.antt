@@ -1,11 +1,11 @@
 -- Arrays and numbers store one drawing at most: what they store says which it is.
 use Prim.Native.Nat.{ℕ, zero, suc, pred, _<_}
 use mathlib.Core.Path.{_≡_, refl, sym, ap, _∙_}
-use mathlib.Core.Bool.{false}
 use mathlib.Core.List.{List}
 use native.Mathlib.Omega.{arith}
 use lib.ListN.{length, take}
 use lib.Seq.{ext-getD}
+use Rattle.rules.specs.declared.Kind.the-variants.{Guide}
 use Rattle.rules.specs.declared.Bend.the-variants.{Straight}
 use Rattle.rules.specs.Points.{Drawing, w, m}
 use Rattle.promise.specs.Sound.{Sound}
@@ -61,7 +61,7 @@ module _ {p q : Drawing} {a : Arrays} {c : Counts} (sp : Standing p) (sq : Stand
   -- the same lines
   same-all : p .lines ≡ q .lines
   same-all =
-      ext-getD (record { later = 0; earlier = 0; bend = Straight; cut = false }) (p .lines) (q .lines) same-lines
+      ext-getD (record { later = 0; earlier = 0; bend = Straight; kind = Guide }) (p .lines) (q .lines) same-lines
       (λ e el. sym (line-is sp e el hp) ∙ line-is sq e (omega (arith, same-lines)) hq)
 
   -- THEY ARE ONE.

@@ -20,11 +20,17 @@ add-word-at-2 c = search needs
 word-at-requires-2 : tie.Need-word-at-requires-2
 word-at-requires-2 c κs = search needs
 
+kind-from-requires : tie.Need-kind-from-requires
+kind-from-requires c κs = search needs
+
 join-requires : tie.Need-join-requires
 join-requires c κs = search needs
 
 returns-2 : tie.Need-returns-2
-returns-2 c = let w = c .before .before .before in c .join .ensures ∙ in-form _ _ (w .before .before .pre) _ (w .word-at .ensures) (c .before .before .if1 .left) _ (c .before .word-at2 .ensures)
+returns-2 c =
+    let k = c .before in
+    let w = k .before .before .before in
+    c .join .ensures ∙ in-form _ _ (w .before .before .pre) _ (w .word-at .ensures) (k .before .before .if1 .left) _ _ (k .before .word-at2 .ensures) (k .kind-from .ensures)
 
 pub entry-at-spec : {M : Type 1} → statement M
 entry-at-spec =
@@ -35,5 +41,6 @@ entry-at-spec =
     returns
     add-word-at-2
     word-at-requires-2
+    kind-from-requires
     join-requires
     returns-2)

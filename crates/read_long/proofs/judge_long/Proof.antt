@@ -1,4 +1,4 @@
--- `judge_long` meets its contract. The loop's invariant: 6 and 7 are left from entry i on.
+-- `judge_long` meets its contract. The loop's invariant: 13, 6 and 7 are left from entry i on.
 use Prim.Native.Nat.{ℕ, _-_, _<_, _≤_}
 use mathlib.Core.Path.{_≡_, sym, _∙_}
 use mathlib.Core.List.{List}

@@ -11,7 +11,7 @@ use Rattle.store_judging.proofs.Stages.{finished, few, at-entries, at-r
 use Rattle.store_judging.proofs.judge.Statement.{statement}
 use Rattle.store_judging.proofs.judge.Tie as tie
 
--- once 6 and 7 have passed
+-- once 13, 6 and 7 have passed
 placed : (d : tie.After-enum-told) →
     let a = d .before .before .before .before .before .before .before .before .args in
     answer (entriesPass (a .owner .now) (a .c .k) 0 (a .e .now)) ≡ Accepted

@@ -13,8 +13,17 @@ mul-word c = search needs
 shared-slice-read-word : tie.Need-shared-slice-read-word
 shared-slice-read-word c = search needs
 
-split-requires : tie.Need-split-requires
-split-requires c κs = search needs
+add-later : tie.Need-add-later
+add-later c = search needs
+
+mul-later : tie.Need-mul-later
+mul-later c = search needs
+
+shared-slice-read-later : tie.Need-shared-slice-read-later
+shared-slice-read-later c = search needs
+
+entry-of-requires : tie.Need-entry-of-requires
+entry-of-requires c κs = search needs
 
 add-bend-from : tie.Need-add-bend-from
 add-bend-from c = search needs
@@ -28,22 +37,13 @@ shared-slice-read-bend-from c = search needs
 bend-from-requires : tie.Need-bend-from-requires
 bend-from-requires c κs = search needs
 
-add-t6 : tie.Need-add-t6
-add-t6 c = search needs
-
-mul-t7 : tie.Need-mul-t7
-mul-t7 c = search needs
-
-shared-slice-read-t9 : tie.Need-shared-slice-read-t9
-shared-slice-read-t9 c = search needs
-
 returns : tie.Need-returns
 unfolding arraysIn
 returns c =
     let z = c .before .before .before .before .before .before in
     let t = z .args .table .now in
     let e = z .args .e in
-    rw (c .before .bend-from .ensures, c .before .before .before .split .ensures, arrays-read wordsR t e 0 (z .pre .0), arrays-read laterR t e 0 (z .pre .0), arrays-read bendsR t e 0 (z .pre .0))
+    rw (c .bend-from .ensures, c .before .before .entry-of .ensures, arrays-read wordsR t e 0 (z .pre .0), arrays-read laterR t e 0 (z .pre .0), arrays-read bendsR t e 0 (z .pre .0))
 
 pub line-in-spec : {M : Type 1} → statement M
 line-in-spec =
@@ -52,12 +52,12 @@ line-in-spec =
     add-word
     mul-word
     shared-slice-read-word
-    split-requires
+    add-later
+    mul-later
+    shared-slice-read-later
+    entry-of-requires
     add-bend-from
     mul-bend-from
     shared-slice-read-bend-from
     bend-from-requires
-    add-t6
-    mul-t7
-    shared-slice-read-t9
     returns)

@@ -1,27 +1,25 @@
--- `words::split` meets its contract: the top bit is 0 where the number is below the limit.
-use Prim.Native.Nat.{ℕ, _/_}
-use mathlib.Core.Path.{_≡_, refl}
-use mathlib.Core.Bool.{Bool, true, false, not}
-use native.Mathlib.Omega.{arith}
-use lib.Dec.{leb, eqb}
+-- `words::split` meets its contract: the mask leaves the point, the shift the two top bits.
 use borrow.Author.Needs.{needs}
-use borrow.Author.Tests.{leb-true, leb-false, eq-eqb, ne-eqb}
-use Rattle.rules.specs.Entries.{pointLimit}
+use Rattle.words.proofs.Splits.{reads-as, reads-both}
 use Rattle.words.proofs.split.Statement.{statement}
 use Rattle.words.proofs.split.Tie as tie
-
-top-bit : (e : ℕ) → eqb (e / pointLimit) 0 ≡ not (leb pointLimit e)
-top-bit e = go (leb pointLimit e) refl
-  where
-    go : (b : Bool) → leb pointLimit e ≡ b → eqb (e / pointLimit) 0 ≡ not b
-    go true q = let h = leb-true pointLimit e q in ne-eqb (e / pointLimit) 0 (λ z. omega arith)
-    go false q = let h = leb-false pointLimit e q in eq-eqb (e / pointLimit) 0 (omega arith)
 
 low-bits-requires : tie.Need-low-bits-requires
 low-bits-requires c κs = search needs
 
 returns : tie.Need-returns
-returns c = λ i. record { point = c .low-bits .ensures i; cut = top-bit (c .before .args .e) i }
+returns c = let l = c .before in reads-as (l .before .args .e) _ 0 (l .low-bits .ensures) (c .if1 .taken)
+
+returns-2 : tie.Need-returns-2
+returns-2 c = let l = c .before .before in reads-as (l .before .args .e) _ 1 (l .low-bits .ensures) (c .if2 .taken)
+
+returns-3 : tie.Need-returns-3
+returns-3 c = let l = c .before .before .before in reads-as (l .before .args .e) _ 2 (l .low-bits .ensures) (c .if3 .taken)
+
+returns-4 : tie.Need-returns-4
+returns-4 c =
+    let l = c .before .before .before in
+    reads-both (l .before .args .e) _ (l .low-bits .ensures) (c .before .before .if1 .left) (c .before .if2 .left) (c .if3 .left)
 
 pub split-spec : {M : Type 1} → statement M
-split-spec = tie.close (tie.spec low-bits-requires returns)
+split-spec = tie.close (tie.spec low-bits-requires returns returns-2 returns-3 returns-4)
