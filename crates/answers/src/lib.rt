@@ -57,6 +57,7 @@ pub fn refusal_number(r: Refusal) -> u16
         Refusal::ExtraBytes => 10,
         Refusal::OtherDrawing => 11,
         Refusal::BadTool => 12,
+        Refusal::BothMarks => 13,
         Refusal::Finished => 21,
         Refusal::Unfinished => 22,
         Refusal::NoSuch => 23,

@@ -5,6 +5,7 @@ use answers::Moved;
 use answers::PointSeen;
 use drawing::Drawing;
 use drawing::Placed;
+use rules::Kind;
 use rules::Place;
 use rules::Refusal;
 use store_links::Counts;
@@ -16,10 +17,10 @@ use tool::Move;
 use tool::Numbers;
 use tool::Tool;
 ghost use mathlib.Core.Path.{_≡_};
-ghost use Prim.Native.Nat.{_<_, _≤_};
+ghost use Prim.Native.Nat.{_*_, _<_, _≤_};
 ghost use lib.ListN.{getD};
 ghost use Rattle.rules.specs.Refusals.{told};
-ghost use Rattle.rules.specs.Entries.{entryOf};
+ghost use Rattle.rules.specs.Readings.{entryOf};
 ghost use Rattle.rules.specs.Points.{Drawing as Plan, placeOf, lineAt};
 ghost use Rattle.rules.specs.Moves.{Tool as WholeTool, lift, moveAt};
 ghost use Rattle.store_laws.specs.Adding.{Holds};
@@ -29,18 +30,23 @@ ghost use Rattle.tool.specs.Checking.{wholeTool, toolOf, InRange};
 ghost use Rattle.drawing.specs.View.{Is, Came};
 ghost use Rattle.drawing.specs.Places.{PlacedIn, IsPlaced};
 ghost use Rattle.cutter.specs.Numbering.{fiveOf};
-ghost use Rattle.cutter.specs.Cuts.{NthCut, cutsTo};
+ghost use Rattle.cutter.specs.Cuts.{NthCut, cuts, cutsTo};
 ghost use Rattle.cutter.specs.Seen.{IsMove, MoveSeen, moveCount};
 
-// A line with this entry is cut.
-fn is_cut(word: u16) -> bool
-    ensures { λ r. ⌜ r ≡ entryOf word .cut ⌝ }
+// How often a line with this entry is cut: a guide never, a plain line once, a feeder twice.
+fn cuts_of(word: u16) -> usize
+    ensures { λ r. ⌜ (r ≡ cuts (entryOf word .kind)) × (r ≤ 2) ⌝ }
 {
-    let x = words::split(word);
-    x.cut
+    let x = words::entry_of(word);
+    let kind = x.kind;
+    match kind {
+        Kind::Guide => 0,
+        Kind::Plain => 1,
+        Kind::Feeder => 2,
+    }
 }
 
-// The number of the j-th cut line, from 0, or the number of lines where there is none.
+// The line whose cut is the j-th, from 0, or the number of lines where there is none.
 fn nth_cut(table: &Table, lines: usize, j: usize) -> usize
     requires { ⌜ lines ≤ 3072 ⌝ }
     ensures { λ r. ⌜ NthCut (arraysIn (now (table .entry)) .words) lines j r ⌝ }
@@ -48,28 +54,24 @@ fn nth_cut(table: &Table, lines: usize, j: usize) -> usize
     let mut seen = 0;
     let mut e = 0;
     while e < lines {
-        if is_cut(table[WORDS + e]) {
-            if seen == j {
-                return e;
-            }
-            seen += 1;
+        seen += cuts_of(table[WORDS + e]);
+        if j < seen {
+            return e;
         }
         e += 1;
     }
     e
 }
 
-// How many of the lines are cut.
+// How often the lines are cut, all together.
 fn cut_count(table: &Table, lines: usize) -> usize
     requires { ⌜ lines ≤ 3072 ⌝ }
-    ensures { λ r. ⌜ (r ≡ cutsTo (arraysIn (now (table .entry)) .words) lines) × (r ≤ lines) ⌝ }
+    ensures { λ r. ⌜ (r ≡ cutsTo (arraysIn (now (table .entry)) .words) lines) × (r ≤ 2 * lines) ⌝ }
 {
     let mut count = 0;
     let mut i = 0;
     while i < lines {
-        if is_cut(table[WORDS + i]) {
-            count += 1;
-        }
+        count += cuts_of(table[WORDS + i]);
         i += 1;
     }
     count
@@ -127,7 +129,7 @@ pub fn move_at(v: Placed, t: Tool, number: usize) -> Moved
     look_move(&d.table, &v.x, d.counts, t, number)
 }
 
-// How many moves a finished drawing has, whatever the tool: five for each cut line.
+// How many moves a finished drawing has, whatever the tool: five for each cut.
 pub fn move_count(d: Drawing) -> Counted
     requires { ⌜ Came d ⌝ }
     ensures { λ r. ⌜ ((q : Plan) (t : WholeTool) → Is q d → toldCount r ≡ told (moveCount q t)) ⌝ }

@@ -1,4 +1,4 @@
-// Prints the cutter moves of document 01's K4 (n = 5, add 1,3, then 1,4,3,2), one line a move, in eighths of a millimetre: drawn by calls with one tool, and from its order file at scale 8 with another.
+// Prints the cutter moves of document 01's K4 (n = 5, add 1,3, then 1,4,3,2), one line a move, in eighths of a millimetre: drawn by calls with one tool, and from its order file at scale 8 with another. Then those of request 1's worked case of four points, with a feeder and a guide.
 use answers::Counted;
 use answers::Moved;
 use drawing::Placed;
@@ -101,6 +101,14 @@ fn main() {
             pitch: 80.0,
             depth: 40.0,
             clearance: 1.0,
+        },
+    );
+    print_order(
+        b"HD\x00\x04PT\x00\x00PT\x00\x01\x00\x01PT\x00\x02\x00\x01\x00\x02PT\x00\x03\x40\x01\x80\x03\x00\x02EN",
+        Tool {
+            pitch: 8.0,
+            depth: 8.0,
+            clearance: 8.0,
         },
     );
 }

@@ -27,7 +27,7 @@ moveAsked t i = record { right = λ q m. MoveSeen m (moveAt q (wholeTool t) i); 
 abbrev pub pointAsked : ℕ → Question PointSeen ℕ
 pointAsked p = record { right = λ q s. s ≡ pointSeen (lookPoint q p); turned = Point.Refused; given = pointGiven }
 
--- "a line's ends, bend and cut flag"
+-- "a line's ends, bend and cut flag", which is its kind now
 abbrev pub lineAsked : ℕ → Question LineSeen ℕ
 lineAsked e = record { right = λ q s. s ≡ lineSeen (lookLine q e); turned = Line.Refused; given = lineGiven }
 

@@ -2,8 +2,8 @@
 use Prim.Native.Nat.{ℕ}
 use mathlib.Core.List.{[], _∷_}
 use lib.Ieee.{Float, binary32, ofBits}
-use Rattle.rules.specs.Basics.{if_then_else_}
 use Rattle.rules.specs.Refusals.{Result, good, refused}
+use Rattle.rules.specs.DrawingFile.{lastField}
 use Rattle.answers.specs.declared.PointSeen.{PointSeen}
 use Rattle.answers.specs.declared.PointSeen.the-variants as Point
 use Rattle.answers.specs.declared.LineSeen.{LineSeen}
@@ -15,7 +15,7 @@ use Rattle.answers.specs.declared.Written.the-variants as Written
 use Rattle.tool.specs.declared.Move.the-variants as Move
 use Rattle.answers.specs.declared.Moved.{Moved}
 use Rattle.answers.specs.declared.Moved.the-variants as Moved
-use Rattle.panel_words.specs.Words.{kindOf, portOf}
+use Rattle.panel_words.specs.Words.{bendKind, portOf}
 use Rattle.panel_told.specs.Telling.{Given, withWords, alone}
 
 -- a file that was written: the number of its bytes
@@ -36,9 +36,9 @@ abbrev pub pointGiven : PointSeen → Result (Given ℕ)
 pointGiven (Point.At a) = good (withWords 1 (a .x ∷ a .y ∷ []))
 pointGiven (Point.Refused r p) = refused r p
 
--- "a line's ends, bend and cut flag"
+-- "a line's ends, bend and cut flag", which is its kind now
 abbrev pub lineGiven : LineSeen → Result (Given ℕ)
-lineGiven (Line.Seen l a) = good (withWords 1 (l .later ∷ l .earlier ∷ kindOf (l .bend) ∷ portOf (l .bend) ∷ a .x ∷ a .y ∷ (if l .cut then 1 else 0) ∷ []))
+lineGiven (Line.Seen l a) = good (withWords 1 (l .later ∷ l .earlier ∷ bendKind (l .bend) ∷ portOf (l .bend) ∷ a .x ∷ a .y ∷ lastField (l .kind) ∷ []))
 lineGiven (Line.Refused r p) = refused r p
 
 -- "some cut line ending at a given point, or none"

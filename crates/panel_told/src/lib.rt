@@ -78,7 +78,7 @@ pub fn tell_point(found: PointSeen, buffer: u64, seen: &mut [u64; 2], refusal: &
     }
 }
 
-// A line: 1, and its later point, its earlier point, the kind of its bend, the port's index, the bend's x and y, and its mark.
+// A line: 1, and its later point, its earlier point, the kind of its bend, the port's index, the bend's x and y, and its own kind as a drawing file has it.
 pub fn tell_line(found: LineSeen, buffer: u64, seen: &mut [u64; 7], refusal: &mut [u64; 3]) -> u64
     ensures { λ r. ⌜ Tells buffer (lineGiven found) (now (seen .entry)) (now (seen .exit)) r (now (refusal .exit)) ⌝ }
 {
@@ -87,12 +87,13 @@ pub fn tell_line(found: LineSeen, buffer: u64, seen: &mut [u64; 7], refusal: &mu
             let later = panel_words::wide(l.later);
             let earlier = panel_words::wide(l.earlier);
             let b = l.bend;
-            let kind = panel_words::kind_of(b);
+            let bent = panel_words::bend_kind(b);
             let port = panel_words::port_of(b);
             let x = panel_words::wide(bend.x);
             let y = panel_words::wide(bend.y);
-            let mark = panel_words::mark_of(l.cut);
-            *seen = [later, earlier, kind, port, x, y, mark];
+            let kind = l.kind;
+            let field = panel_words::wide(words::last_field(kind));
+            *seen = [later, earlier, bent, port, x, y, field];
             *refusal = [0, 0, 0];
             1
         }

@@ -28,11 +28,11 @@ abbrev pub refusalWords : ℕ → Refusal → ℕ → List ℕ
 refusalWords buffer r p = number r ∷ p ∷ shortOf buffer r ∷ []
 
 -- "A line's bend is at a left, right or middle port, or it has none"
-abbrev pub kindOf : Bend → ℕ
-kindOf Straight = 0
-kindOf (Left j) = 1
-kindOf (Right j) = 2
-kindOf (Middle i) = 3
+abbrev pub bendKind : Bend → ℕ
+bendKind Straight = 0
+bendKind (Left j) = 1
+bendKind (Right j) = 2
+bendKind (Middle i) = 3
 
 -- the port's index
 abbrev pub portOf : Bend → ℕ

@@ -2,8 +2,7 @@
 use rules::Bend;
 use rules::Refusal;
 ghost use mathlib.Core.Path.{_≡_};
-ghost use Rattle.rules.specs.Basics.{if_then_else_};
-ghost use Rattle.panel_words.specs.Words.{shortOf, refusalWords, kindOf, portOf};
+ghost use Rattle.panel_words.specs.Words.{shortOf, refusalWords, bendKind, portOf};
 
 // The buffer that a call can find too short.
 pub const NO_BUFFER: u64 = 0;
@@ -41,8 +40,8 @@ pub fn wide(x: u16) -> u64
 }
 
 // The kind of a bend: 0 straight, 1 at a left port, 2 at a right port, 3 at a middle port.
-pub fn kind_of(b: Bend) -> u64
-    ensures { λ r. ⌜ r ≡ kindOf b ⌝ }
+pub fn bend_kind(b: Bend) -> u64
+    ensures { λ r. ⌜ r ≡ bendKind b ⌝ }
 {
     match b {
         Bend::Straight => 0,
@@ -62,11 +61,4 @@ pub fn port_of(b: Bend) -> u64
         Bend::Right(j) => wide(j),
         Bend::Middle(i) => wide(i),
     }
-}
-
-// How a line is marked: 1 for cut, 0 for guide.
-pub fn mark_of(cut: bool) -> u64
-    ensures { λ r. ⌜ r ≡ (if cut then 1 else 0) ⌝ }
-{
-    if cut { 1 } else { 0 }
 }

@@ -6,9 +6,8 @@ use mathlib.Core.List.{List, [], _∷_}
 use lib.ListN.{length, getD, take}
 use Rattle.rules.specs.declared.Line.{Line}
 use Rattle.rules.specs.declared.Place.{Place}
-use Rattle.rules.specs.Basics.{if_then_else_}
 use Rattle.rules.specs.Records.{written, drawingHead, pointPlace, lineShape, endMark, headSize, placeSize, lineSize}
-use Rattle.rules.specs.DrawingFile.{highest}
+use Rattle.rules.specs.DrawingFile.{highest, lastField}
 use Rattle.store_links.specs.declared.Counts.{Counts}
 use Rattle.store_links.specs.Arrays.{Arrays}
 use Rattle.words.specs.Bytes.{withWord}
@@ -25,7 +24,7 @@ bend-found xs a e is v u h = rw (v, u, is) at h
 
 -- The numbers that are written are the line's record.
 pub line-stored : (xs : List ℕ) (a : Arrays) (s e : ℕ) {l : Line} {place : Place} {x y mark at : ℕ} {o o′ : List ℕ} → l ≡ lineIn a e → place ≡ bendAt xs a (lineIn a e) →
-    x ≡ s * place .x → y ≡ s * place .y → mark ≡ (if l .cut then 1 else 0) →
+    x ≡ s * place .x → y ≡ s * place .y → mark ≡ lastField (l .kind) →
     Stored o at (written lineShape (l .later ∷ l .earlier ∷ x ∷ y ∷ mark ∷ [])) o′ → Stored o at (lineBytes s xs a e) o′
 unfolding lineBytes
 line-stored xs a s e is p x y m h = rw (x, y, m, is, p) at h

@@ -64,6 +64,7 @@ fn write_line(out: &mut [u8], at: usize, x: &[u16; POINTS], table: &[u16], s: us
 {
     let l = line_in(table, e);
     let bend = l.bend;
+    let kind = l.kind;
     let place = bend_of(x, table, broad(l.later), broad(l.earlier), bend);
     let bend_x = narrow(s * broad(place.x));
     let bend_y = narrow(s * broad(place.y));
@@ -74,7 +75,7 @@ fn write_line(out: &mut [u8], at: usize, x: &[u16; POINTS], table: &[u16], s: us
         l.earlier,
         bend_x,
         bend_y,
-        write_records::mark_of(l.cut),
+        words::last_field(kind),
     );
 }
 

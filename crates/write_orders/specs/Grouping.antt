@@ -13,7 +13,9 @@ use Rattle.rules.specs.declared.Entry.{Entry}
 use Rattle.rules.specs.declared.Bend.{Bend}
 use Rattle.rules.specs.declared.Bend.the-variants.{Straight}
 use Rattle.rules.specs.Basics.{if_then_else_, keep}
-use Rattle.rules.specs.Entries.{entryOf, wordOf}
+use Rattle.rules.specs.declared.Kind.the-variants.{Guide}
+use Rattle.rules.specs.Entries.{wordOf}
+use Rattle.rules.specs.Readings.{entryOf}
 use Rattle.rules.specs.Points.{Drawing}
 use Rattle.rules.specs.Adding.{newLines}
 use Rattle.rules.specs.Records.{bytesOf, written, orderHead, scaleShape, pointEntries, endShape, orderMark, scaleMark, entriesMark, endMark}
@@ -179,7 +181,7 @@ head-are n s rest = go (eqb s 1)
 pub order-is : {d : Drawing} {a : Arrays} {c : Counts} → Whole d → Stores d a c → bytesOf (orderWords (a .words) (a .later) c) ≡ writeOrder d
 unfolding writeOrder
 order-is {d} {a} {c} h t =
-    let stored : Kept (a .words) (a .later) 0 (d .lines) = kept (a .words) (a .later) 0 (d .lines) (record { later = 0; earlier = 0; bend = Straight; cut = false }) (λ i b. rw (zero-add i) (t .later i b)) (λ i b. rw (zero-add i) (t .entry i b)) in
+    let stored : Kept (a .words) (a .later) 0 (d .lines) = kept (a .words) (a .later) 0 (d .lines) (record { later = 0; earlier = 0; bend = Straight; kind = Guide }) (λ i b. rw (zero-add i) (t .later i b)) (λ i b. rw (zero-add i) (t .entry i b)) in
     let up = from-rising 1 (d .k) (d .lines) (rising (h .reached .built)) in
     let points = pointsWords (a .words) (a .later) (c .lines) (c .n) 1 0 in
     let points-is : bytesOf points ≡ orderPoints (c .n) 1 (d .lines) =

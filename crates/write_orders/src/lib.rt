@@ -23,7 +23,7 @@ ghost use Rattle.write_orders.specs.Writing.{again, countOf, entryWords,
 fn joined(w: u16) -> u16
     ensures { λ r. ⌜ r ≡ again w ⌝ }
 {
-    words::join(words::split(w))
+    words::join(words::entry_of(w))
 }
 
 // How many lines in succession, from the line `from` on, have p as their later point.

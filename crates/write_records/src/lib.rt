@@ -5,11 +5,9 @@ use rules::LINE_MARK;
 use rules::PLACE_MARK;
 use words::narrow;
 use words::put_word;
-ghost use mathlib.Core.Path.{_≡_};
 ghost use mathlib.Core.List.{[], _∷_};
 ghost use Prim.Native.Nat.{_+_, _<_, _≤_};
 ghost use lib.ListN.{length};
-ghost use Rattle.rules.specs.Basics.{if_then_else_};
 ghost use Rattle.rules.specs.Records.{headSize, placeSize, lineSize, written, drawingHead, pointPlace, lineShape, endMark};
 ghost use Rattle.words.specs.Writing.{Pasted, Stored};
 
@@ -55,14 +53,7 @@ pub fn put_place(out: &mut [u8], at: usize, x: u16, y: u16)
     put_word(out, at + 4, y);
 }
 
-// How a line is marked: 1 for cut, 0 for guide.
-pub fn mark_of(cut: bool) -> u16
-    ensures { λ r. ⌜ r ≡ (if cut then 1 else 0) ⌝ }
-{
-    if cut { 1 } else { 0 }
-}
-
-// A line's record: 4C 4E, later point, earlier point, bend x, bend y, its mark.
+// A line's record: 4C 4E, later point, earlier point, bend x, bend y, the field of its kind.
 pub fn put_line(out: &mut [u8], at: usize, later: u16, earlier: u16, x: u16, y: u16, mark: u16)
     requires { ⌜ at + lineSize ≤ length (now out) ⌝ }
     ensures { λ _. ⌜ Stored (now (out .entry)) at (written lineShape (later ∷ earlier ∷ x ∷ y ∷ mark ∷ [])) (now (out .exit)) ⌝ }

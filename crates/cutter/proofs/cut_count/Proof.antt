@@ -1,45 +1,44 @@
--- `cut_count` meets its contract: `count` of the first i lines are cut.
-use Prim.Native.Nat.{ℕ, _-_, _<_, _≤_}
-use mathlib.Core.Logic.{⊎-elim}
-use mathlib.Core.Path.{_≡_, refl, sym, ap, _∙_}
+-- `cut_count` meets its contract: `count` is how often the first i lines are cut.
+use Prim.Native.Nat.{ℕ, _*_, _-_, _<_, _≤_}
+use mathlib.Core.Path.{_≡_, refl, ap, _∙_}
 use denote.Ref.{now}
 use native.Mathlib.Omega.{arith}
 use borrow.Author.Needs.{needs}
-use Rattle.rules.specs.Entries.{entryOf}
+use Rattle.rules.specs.Readings.{entryOf}
 use Rattle.store_tables.specs.Tables.{arraysIn, arrays-read, wordsR}
-use Rattle.cutter.specs.Cuts.{cutIn, cutsTo, countTo, counts-one, counts-none}
+use Rattle.cutter.specs.Cuts.{cuts, cutsIn, cutsTo, sumTo, sum-next}
 use Rattle.cutter.proofs.cut_count.Statement.{statement}
 use Rattle.cutter.proofs.cut_count.Tie as tie
 
 abbrev Inv-loop : tie.InvT-loop
-Inv-loop table lines count₀ i₀ count i = (i ≤ lines) × (count ≡ cutsTo (arraysIn table .words) i) × (count ≤ i)
+Inv-loop table lines count₀ i₀ count i = (i ≤ lines) × (count ≡ cutsTo (arraysIn table .words) i) × (count ≤ 2 * i)
 
 abbrev μ-loop : tie.MeasureT-loop
 μ-loop table lines count₀ i₀ count i = lines - i
 
 loop-holds : tie.Need-loop-holds Inv-loop μ-loop
-unfolding countTo
+unfolding sumTo
 loop-holds c = (omega arith, refl, omega arith)
 
-add-is-cut : tie.Need-add-is-cut Inv-loop μ-loop
-add-is-cut c = search needs
+add-cuts-of : tie.Need-add-cuts-of Inv-loop μ-loop
+add-cuts-of c = search needs
 
-mul-is-cut : tie.Need-mul-is-cut Inv-loop μ-loop
-mul-is-cut c = search needs
+mul-cuts-of : tie.Need-mul-cuts-of Inv-loop μ-loop
+mul-cuts-of c = search needs
 
-element-copy-out-is-cut : tie.Need-element-copy-out-is-cut Inv-loop μ-loop
-element-copy-out-is-cut c = search needs
+element-copy-out-cuts-of : tie.Need-element-copy-out-cuts-of Inv-loop μ-loop
+element-copy-out-cuts-of c = search needs
 
-is-cut-requires : tie.Need-is-cut-requires Inv-loop μ-loop
-is-cut-requires c κs = search needs
+cuts-of-requires : tie.Need-cuts-of-requires Inv-loop μ-loop
+cuts-of-requires c κs = search needs
 
 -- the line at hand, as the table is read
-at-hand : (c : tie.After-is-cut Inv-loop μ-loop) → let b = c .before .before .before in cutIn (arraysIn (now (b .before .args .table)) .words) (b .loop .i) ≡ c .is-cut .result
-unfolding cutIn arraysIn
+at-hand : (c : tie.After-cuts-of Inv-loop μ-loop) → let b = c .before .before .before in c .cuts-of .result ≡ cutsIn (arraysIn (now (b .before .args .table)) .words) (b .loop .i)
+unfolding cutsIn arraysIn
 at-hand c =
     let b = c .before .before .before in
     let low : b .loop .i < 3072 = omega (arith, b .before .pre, c .before .before .loop-test .taken) in
-    sym (c .is-cut .ensures ∙ ap (λ (w : ℕ). entryOf w .cut) (arrays-read wordsR (now (b .before .args .table)) (b .loop .i) 0 low))
+    c .cuts-of .ensures .0 ∙ ap (λ (w : ℕ). cuts (entryOf w .kind)) (arrays-read wordsR (now (b .before .args .table)) (b .loop .i) 0 low)
 
 add-count : tie.Need-add-count Inv-loop μ-loop
 add-count c = search needs
@@ -52,13 +51,10 @@ loop-less c = search needs
 
 loop-again : tie.Need-loop-again Inv-loop μ-loop
 loop-again c =
-    let b = c .before .before .before .before in
-    let f = cutIn (arraysIn (now (b .before .args .table)) .words) in
-    let is = at-hand (c .before) in
-    ⊎-elim
-    (λ w. let s = counts-one f (b .loop .i) (is ∙ w .0 .taken) in (omega arith, omega arith, omega arith))
-    (λ w. let s = counts-none f (b .loop .i) (is ∙ w .0 .left) in (omega arith, omega arith, omega arith))
-    (c .if1 .came)
+    let b = c .before .before .before in
+    let f = cutsIn (arraysIn (now (b .before .args .table)) .words) in
+    let s = sum-next f (b .loop .i) in
+    (omega arith, omega (arith, s, at-hand c, b .loop .inv .1), omega (arith, c .cuts-of .ensures .1, b .loop .inv .2))
 
 returns : tie.Need-returns Inv-loop μ-loop
 returns c =
@@ -73,10 +69,10 @@ cut-count-spec =
     Inv-loop
     μ-loop
     loop-holds
-    add-is-cut
-    mul-is-cut
-    element-copy-out-is-cut
-    is-cut-requires
+    add-cuts-of
+    mul-cuts-of
+    element-copy-out-cuts-of
+    cuts-of-requires
     add-count
     add-i
     loop-less

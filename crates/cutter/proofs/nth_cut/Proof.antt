@@ -1,53 +1,53 @@
--- `nth_cut` meets its contract: `seen` of the first e lines are cut, and no more than j.
-use Prim.Native.Nat.{ℕ, _-_, _<_, _≤_}
-use mathlib.Core.Logic.{⊎-elim}
-use mathlib.Core.Path.{_≡_, refl, sym, ap, _∙_}
+-- `nth_cut` meets its contract: the first e lines are cut `seen` times, and that is no more than j.
+use Prim.Native.Nat.{ℕ, _+_, _*_, _-_, _<_, _≤_}
+use mathlib.Core.Path.{_≡_, refl, ap, _∙_}
 use denote.Ref.{now}
 use native.Mathlib.Omega.{arith}
 use borrow.Author.Needs.{needs}
-use Rattle.rules.specs.Entries.{entryOf}
+use Rattle.rules.specs.Readings.{entryOf}
 use Rattle.store_tables.specs.Tables.{arraysIn, arrays-read, wordsR}
-use Rattle.cutter.specs.Cuts.{cutIn, cutsTo, countTo, counts-one, counts-none}
+use Rattle.cutter.specs.Cuts.{cuts, cutsIn, cutsTo, sumTo, sum-next}
 use Rattle.cutter.proofs.nth_cut.Statement.{statement}
 use Rattle.cutter.proofs.nth_cut.Tie as tie
 
 abbrev Inv-loop : tie.InvT-loop
-Inv-loop table lines j seen₀ e₀ seen e = (e ≤ lines) × (seen ≡ cutsTo (arraysIn table .words) e) × (seen ≤ j)
+Inv-loop table lines j seen₀ e₀ seen e = (e ≤ lines) × (seen ≡ cutsTo (arraysIn table .words) e) × (seen ≤ j) × (seen ≤ 2 * e)
 
 abbrev μ-loop : tie.MeasureT-loop
 μ-loop table lines j seen₀ e₀ seen e = lines - e
 
 loop-holds : tie.Need-loop-holds Inv-loop μ-loop
-unfolding countTo
-loop-holds c = (omega arith, refl, omega arith)
+unfolding sumTo
+loop-holds c = (omega arith, refl, omega arith, omega arith)
 
-add-is-cut : tie.Need-add-is-cut Inv-loop μ-loop
-add-is-cut c = search needs
+add-cuts-of : tie.Need-add-cuts-of Inv-loop μ-loop
+add-cuts-of c = search needs
 
-mul-is-cut : tie.Need-mul-is-cut Inv-loop μ-loop
-mul-is-cut c = search needs
+mul-cuts-of : tie.Need-mul-cuts-of Inv-loop μ-loop
+mul-cuts-of c = search needs
 
-element-copy-out-is-cut : tie.Need-element-copy-out-is-cut Inv-loop μ-loop
-element-copy-out-is-cut c = search needs
+element-copy-out-cuts-of : tie.Need-element-copy-out-cuts-of Inv-loop μ-loop
+element-copy-out-cuts-of c = search needs
 
-is-cut-requires : tie.Need-is-cut-requires Inv-loop μ-loop
-is-cut-requires c κs = search needs
+cuts-of-requires : tie.Need-cuts-of-requires Inv-loop μ-loop
+cuts-of-requires c κs = search needs
 
--- the line at hand, as the table is read
-at-hand : (c : tie.After-is-cut Inv-loop μ-loop) → let b = c .before .before .before in cutIn (arraysIn (now (b .before .args .table)) .words) (b .loop .e) ≡ c .is-cut .result
-unfolding cutIn arraysIn
-at-hand c =
+-- the cuts before the line behind the one at hand
+through : (c : tie.After-cuts-of Inv-loop μ-loop) → let b = c .before .before .before in b .loop .seen + c .cuts-of .result ≡ cutsTo (arraysIn (now (b .before .args .table)) .words) (b .loop .e + 1)
+unfolding cutsIn arraysIn
+through c =
     let b = c .before .before .before in
     let low : b .loop .e < 3072 = omega (arith, b .before .pre, c .before .before .loop-test .taken) in
-    sym (c .is-cut .ensures ∙ ap (λ (w : ℕ). entryOf w .cut) (arrays-read wordsR (now (b .before .args .table)) (b .loop .e) 0 low))
-
-returns : tie.Need-returns Inv-loop μ-loop
-returns c =
-    let b = c .before .before .before .before .before .loop in
-    record { within = b .inv .0; found = λ h. (at-hand (c .before .before) ∙ c .before .if1 .taken, sym (b .inv .1) ∙ c .if2 .taken); none = λ h. absurd (omega arith) }
+    let is = c .cuts-of .ensures .0 ∙ ap (λ (w : ℕ). cuts (entryOf w .kind)) (arrays-read wordsR (now (b .before .args .table)) (b .loop .e) 0 low) in
+    omega (arith, sum-next (cutsIn (arraysIn (now (b .before .args .table)) .words)) (b .loop .e), is, b .loop .inv .1)
 
 add-seen : tie.Need-add-seen Inv-loop μ-loop
 add-seen c = search needs
+
+returns : tie.Need-returns Inv-loop μ-loop
+returns c =
+    let b = c .before .before .before .before .loop in
+    record { within = b .inv .0; found = λ h. (omega (arith, b .inv .1, b .inv .2), omega (arith, through (c .before), c .if1 .taken)); none = λ h. absurd (omega arith) }
 
 add-e : tie.Need-add-e Inv-loop μ-loop
 add-e c = search needs
@@ -57,13 +57,8 @@ loop-less c = search needs
 
 loop-again : tie.Need-loop-again Inv-loop μ-loop
 loop-again c =
-    let b = c .before .before .before .before in
-    let f = cutIn (arraysIn (now (b .before .args .table)) .words) in
-    let is = at-hand (c .before) in
-    ⊎-elim
-    (λ w. let s = counts-one f (b .loop .e) (is ∙ w .0 .taken) in (omega arith, omega arith, omega arith))
-    (λ w. let s = counts-none f (b .loop .e) (is ∙ w .0 .left) in (omega arith, omega arith, omega arith))
-    (c .if1 .came)
+    let b = c .before .before .before .before .loop in
+    (omega arith, through (c .before), omega (arith, c .if1 .left), omega (arith, c .before .cuts-of .ensures .1, b .inv .3))
 
 returns-2 : tie.Need-returns-2 Inv-loop μ-loop
 returns-2 c =
@@ -78,12 +73,12 @@ nth-cut-spec =
     Inv-loop
     μ-loop
     loop-holds
-    add-is-cut
-    mul-is-cut
-    element-copy-out-is-cut
-    is-cut-requires
-    returns
+    add-cuts-of
+    mul-cuts-of
+    element-copy-out-cuts-of
+    cuts-of-requires
     add-seen
+    returns
     add-e
     loop-less
     loop-again

@@ -13,8 +13,8 @@ wide-requires c κs = search needs
 wide-requires-2 : tie.Need-wide-requires-2
 wide-requires-2 c κs = search needs
 
-kind-of-requires : tie.Need-kind-of-requires
-kind-of-requires c κs = search needs
+bend-kind-requires : tie.Need-bend-kind-requires
+bend-kind-requires c κs = search needs
 
 port-of-requires : tie.Need-port-of-requires
 port-of-requires c κs = search needs
@@ -25,8 +25,11 @@ wide-requires-3 c κs = search needs
 wide-requires-4 : tie.Need-wide-requires-4
 wide-requires-4 c κs = search needs
 
-mark-of-requires : tie.Need-mark-of-requires
-mark-of-requires c κs = search needs
+last-field-requires : tie.Need-last-field-requires
+last-field-requires c κs = search needs
+
+wide-requires-5 : tie.Need-wide-requires-5
+wide-requires-5 c κs = search needs
 
 enum-known-found-2 : tie.Need-enum-known-found-2
 enum-known-found-2 c = search needs
@@ -37,13 +40,13 @@ refuse-requires c κs = search needs
 returns : tie.Need-returns
 returns c =
     let m = c .before .before in
-    let w = m .before .before in
+    let w = m .before .before .before in
     let k = w .before .before in
     let a = k .before .before in
     rw (a .before .before .found .given .1)
     (record {
       code = refl;
-      words = rw (a .wide .ensures, k .before .wide2 .ensures, k .kind-of .ensures, w .before .port-of .ensures, w .wide3 .ensures, m .before .wide4 .ensures, m .mark-of .ensures) refl;
+      words = rw (a .wide .ensures, k .before .wide2 .ensures, k .bend-kind .ensures, w .before .port-of .ensures, w .wide3 .ensures, m .before .before .wide4 .ensures, m .wide5 .ensures, m .before .last-field .ensures) refl;
       place = refl;
     })
 
@@ -57,11 +60,12 @@ tell-line-spec =
     enum-known-found
     wide-requires
     wide-requires-2
-    kind-of-requires
+    bend-kind-requires
     port-of-requires
     wide-requires-3
     wide-requires-4
-    mark-of-requires
+    last-field-requires
+    wide-requires-5
     enum-known-found-2
     refuse-requires
     returns

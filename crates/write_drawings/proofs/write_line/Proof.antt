@@ -65,8 +65,8 @@ mul-narrow-2 c = omega (arith, y-fits c)
 narrow-requires-2 : tie.Need-narrow-requires-2
 narrow-requires-2 c κs = y-fits c
 
-mark-of-requires : tie.Need-mark-of-requires
-mark-of-requires c κs = search needs
+last-field-requires : tie.Need-last-field-requires
+last-field-requires c κs = search needs
 
 put-line-requires : tie.Need-put-line-requires
 put-line-requires c κs = search needs
@@ -84,7 +84,7 @@ returns c =
     line-stored (t .args .x .now) (arrays t) (t .args .s) (t .args .e) (p .before .before .before .line-in .ensures) (place-is p)
     (x .narrow .ensures ∙ rw (x .before .broad3 .ensures))
     (y .narrow2 .ensures ∙ rw (y .before .broad4 .ensures))
-    (w .before .mark-of .ensures)
+    (w .before .last-field .ensures)
     (w .put-line .ensures)
 
 pub write-line-spec : {M : Type 1} → statement M
@@ -101,7 +101,7 @@ write-line-spec =
     broad-requires-4
     mul-narrow-2
     narrow-requires-2
-    mark-of-requires
+    last-field-requires
     put-line-requires
     same-length
     returns)

@@ -1,8 +1,8 @@
--- `kind_of` meets its contract.
+-- `bend_kind` meets its contract.
 use mathlib.Core.Path.{refl}
 use borrow.Author.Needs.{needs}
-use Rattle.panel_words.proofs.kind_of.Statement.{statement}
-use Rattle.panel_words.proofs.kind_of.Tie as tie
+use Rattle.panel_words.proofs.bend_kind.Statement.{statement}
+use Rattle.panel_words.proofs.bend_kind.Tie as tie
 
 enum-told : tie.Need-enum-told
 enum-told c = search needs
@@ -28,5 +28,5 @@ returns-3 c = rw (c .enum-told3 .given .1) refl
 returns-4 : tie.Need-returns-4
 returns-4 c = rw (c .enum-told4 .given .1) refl
 
-pub kind-of-spec : {M : Type 1} → statement M
-kind-of-spec = tie.close (tie.spec enum-told enum-told-2 enum-told-3 enum-told-4 returns returns-2 returns-3 returns-4)
+pub bend-kind-spec : {M : Type 1} → statement M
+bend-kind-spec = tie.close (tie.spec enum-told enum-told-2 enum-told-3 enum-told-4 returns returns-2 returns-3 returns-4)
