@@ -3,8 +3,8 @@
 use crate::drawing::{Bend, Drawing, Line, Place, Point};
 use crate::entry::Entry;
 use crate::refusal::{
-    Refusal, COVERED, FEW_ENTRIES, FINISHED, LISTED_OTHERWISE, NOT_PLACED, NOT_WHOLE, NO_PORT,
-    NO_RUN,
+    Refusal, BOTH_MARKS, COVERED, FEW_ENTRIES, FINISHED, LISTED_OTHERWISE, NOT_PLACED, NOT_WHOLE,
+    NO_PORT, NO_RUN,
 };
 
 /// A run wl, .., wr as indexes into the boundary, l < r.
@@ -17,59 +17,87 @@ struct Run {
 impl Drawing {
     /// "an adding call's entries are 16-bit numbers in the file's form"
     pub fn add(&mut self, entries: &[u16]) -> Result<(), Refusal> {
-        let entries: Vec<Entry> = entries.iter().map(|&word| Entry::split(word)).collect();
+        let entries: Vec<Option<Entry>> = entries.iter().map(|&word| Entry::split(word)).collect();
         self.add_entries(&entries)
     }
 
-    /// "Point 1 has no entry, point 2 has 1, point 3 has 1, 2, guide or not"; later points are added.
-    pub(crate) fn list_point(&mut self, point: u16, entries: &[Entry]) -> Result<(), Refusal> {
-        let (expected, first_line): (&[u16], usize) = match point {
-            1 => (&[], 0),
-            2 => (&[1], 0),
-            3 => (&[1, 2], 1),
-            _ => return self.add_entries(entries),
-        };
+    /// "Point 1 has no entry, point 2 has 1, point 3 has 1, 2, guide or not", "may be feeders too";
+    /// later points are added. An entry is none if it is marked both.
+    pub(crate) fn list_point(
+        &mut self,
+        point: u16,
+        entries: &[Option<Entry>],
+    ) -> Result<(), Refusal> {
+        match point {
+            1 if entries.is_empty() => Ok(()),
+            1 => Err(Refusal::new(LISTED_OTHERWISE, 0)),
+            2 => self.list_opening(&[1], 0, entries),
+            3 => self.list_opening(&[1, 2], 1, entries),
+            _ => self.add_entries(entries),
+        }
+    }
+
+    /// The entries of point 2 or 3, whose lines are there since opening and get their kinds: "13, an
+    /// entry marked both guide and feeder", "in the records of points 2 and 3 before 4".
+    fn list_opening(
+        &mut self,
+        expected: &[u16],
+        first_line: usize,
+        entries: &[Option<Entry>],
+    ) -> Result<(), Refusal> {
+        let entries = entries.iter().copied().collect::<Option<Vec<Entry>>>();
+        let entries = entries.ok_or(Refusal::new(BOTH_MARKS, 0))?;
         if !entries.iter().map(|e| e.point).eq(expected.iter().copied()) {
             return Err(Refusal::new(LISTED_OTHERWISE, 0));
         }
         for (line, entry) in self.lines[first_line..].iter_mut().zip(entries) {
-            line.cut = !entry.guide;
+            line.kind = entry.kind;
         }
         Ok(())
     }
 
     /// "The first refusal that applies is the answer, with its number and place, and nothing
     /// changes." "a test that needs new places is made on a copy"
-    fn add_entries(&mut self, entries: &[Entry]) -> Result<(), Refusal> {
-        let run = self.test_entries(entries)?;
+    fn add_entries(&mut self, entries: &[Option<Entry>]) -> Result<(), Refusal> {
+        let (run, entries) = self.test_entries(entries)?;
         let mut copy = self.clone();
-        copy.add_run(run, entries)?;
+        copy.add_run(run, &entries)?;
         *self = copy;
         Ok(())
     }
 
-    /// "Order in adding: 21, 5, then entry by entry 6 before 7, then 8, 9"
-    fn test_entries(&self, entries: &[Entry]) -> Result<Run, Refusal> {
+    /// "Order in adding: 21, 5, then entry by entry 6 before 7, then 8, 9"; gives the run and its
+    /// entries.
+    fn test_entries(&self, entries: &[Option<Entry>]) -> Result<(Run, Vec<Entry>), Refusal> {
         if self.is_finished() {
             return Err(Refusal::new(FINISHED, 0));
         }
         if entries.len() < 2 {
             return Err(Refusal::new(FEW_ENTRIES, 0));
         }
-        for (index, entry) in entries.iter().enumerate() {
-            if entry.point == 0 || entry.point > self.k() {
-                return Err(Refusal::new(NOT_PLACED, index));
-            }
-            if self.point(entry.point).owner.is_some() {
-                return Err(Refusal::new(COVERED, index));
-            }
-        }
-        let run = self.test_run(entries)?;
+        let entries = entries
+            .iter()
+            .enumerate()
+            .map(|(index, &entry)| self.test_entry(index, entry))
+            .collect::<Result<Vec<Entry>, Refusal>>()?;
+        let run = self.test_run(&entries)?;
         let whole = run.l == 0 && run.r + 1 == self.boundary.len();
         if self.k() + 1 == self.n && !whole {
             return Err(Refusal::new(NOT_WHOLE, 0));
         }
-        Ok(run)
+        Ok((run, entries))
+    }
+
+    /// "entry by entry 6 before 7", and 13 "placed as 6 is, tested for each entry before 6".
+    fn test_entry(&self, index: usize, entry: Option<Entry>) -> Result<Entry, Refusal> {
+        let entry = entry.ok_or(Refusal::new(BOTH_MARKS, index))?;
+        if entry.point == 0 || entry.point > self.k() {
+            return Err(Refusal::new(NOT_PLACED, index));
+        }
+        if self.point(entry.point).owner.is_some() {
+            return Err(Refusal::new(COVERED, index));
+        }
+        Ok(entry)
     }
 
     /// "8: the first entry that isn't next on the boundary after the entry before it"; all entries
@@ -91,7 +119,7 @@ impl Drawing {
 
     /// "Steps 1 to 5 are done, with the run still on the boundary. Then the covered points leave it,
     /// the new point owns them and stands between wl and wr. Its lines are added last, in entry
-    /// order, cut unless the entry says guide. k grows by 1."
+    /// order", each of its entry's kind. "k grows by 1."
     fn add_run(&mut self, run: Run, entries: &[Entry]) -> Result<(), Refusal> {
         let place = self.make_room(run);
         let inner = self.boundary[run.l + 1..run.r].to_vec();
@@ -122,7 +150,7 @@ impl Drawing {
                 later,
                 earlier: entry.point,
                 bend,
-                cut: !entry.guide,
+                kind: entry.kind,
             }));
         Ok(())
     }
@@ -211,7 +239,7 @@ fn reaches(port: Place, point: Place) -> bool {
 
 #[cfg(test)]
 mod tests {
-    use crate::{open, Refusal};
+    use crate::{open, Drawing, Kind, Refusal};
 
     // "Order in adding: 21, 5, then entry by entry 6 before 7, then 8, 9, 25", with places.
     #[test]
@@ -226,7 +254,7 @@ mod tests {
             (&[3, 0], 7, 0),
             (&[1, 0x8000], 6, 1),
             (&[1, 5], 6, 1),
-            (&[1, 0xffff], 6, 1),
+            (&[1, 0xffff], 13, 1),
             (&[1, 2, 3], 7, 2),
             (&[2, 1, 5], 6, 2),
             (&[1, 2], 8, 1),
@@ -252,5 +280,66 @@ mod tests {
             assert_eq!(drawing.add(entries), Err(Refusal::new(21, 0)));
             assert_eq!(drawing, before);
         }
+    }
+
+    // "13, an entry marked both guide and feeder, placed as 6 is, tested for each entry before 6".
+    #[test]
+    fn entries_marked_both() {
+        let mut drawing = open(6).unwrap();
+        drawing.add(&[1, 3, 2]).unwrap();
+        let cases: [(&[u16], u16, usize); 17] = [
+            (&[0xC001], 5, 0),
+            (&[0xC001, 4], 13, 0),
+            (&[0xC000, 4], 13, 0),
+            (&[0xC003, 4], 13, 0),
+            (&[0xC009, 0xFFFF], 13, 0),
+            (&[1, 0xC004], 13, 1),
+            (&[1, 0xC000], 13, 1),
+            (&[1, 4, 0xFFFF], 13, 2),
+            (&[1, 2, 0xC001], 13, 2),
+            (&[2, 1, 0xC004], 13, 2),
+            (&[0, 0xC001], 6, 0),
+            (&[0x8000, 0xC001], 6, 0),
+            (&[0x4000, 0xC001], 6, 0),
+            (&[1, 9, 0xC001], 6, 1),
+            (&[1, 0x4005], 6, 1),
+            (&[1, 0x7FFF], 6, 1),
+            (&[1, 0x4003, 0xC002], 7, 1),
+        ];
+        for (entries, number, place) in cases {
+            let before = drawing.clone();
+            let answer = drawing.add(entries);
+            assert_eq!(answer, Err(Refusal::new(number, place)), "{entries:x?}");
+            assert_eq!(drawing, before);
+        }
+        drawing.add(&[0x4001, 4]).unwrap();
+        assert_eq!(drawing.add(&[1, 0xC005]), Err(Refusal::new(13, 1)));
+        drawing.add(&[1, 0x8005, 0x4004, 2]).unwrap();
+        assert_eq!(drawing.add(&[0xC001, 0xC000]), Err(Refusal::new(21, 0)));
+    }
+
+    /// A drawing of five points by two calls, marked or not.
+    fn drawn(marks: [u16; 6]) -> Drawing {
+        let [a, b, c, d, e, f] = marks;
+        let mut drawing = open(5).unwrap();
+        drawing.add(&[a | 1, b | 3]).unwrap();
+        drawing.add(&[c | 1, d | 4, e | 3, f | 2]).unwrap();
+        drawing
+    }
+
+    // "a drawing keeps the outcome for each line", "Places don't depend on it."
+    #[test]
+    fn kinds_are_kept_and_places_do_not_depend_on_them() {
+        let mut marked = drawn([0x4000, 0, 0x8000, 0x4000, 0x4000, 0]);
+        let kinds: Vec<Kind> = marked.lines.iter().map(|line| line.kind).collect();
+        let (guide, plain, feeder) = (Kind::Guide, Kind::Plain, Kind::Feeder);
+        let expected = [
+            plain, plain, plain, feeder, plain, guide, feeder, feeder, plain,
+        ];
+        assert_eq!(kinds, expected);
+        for line in &mut marked.lines {
+            line.kind = Kind::Plain;
+        }
+        assert_eq!(marked, drawn([0; 6]));
     }
 }

@@ -1,5 +1,6 @@
 //! Points, boundary, owners, ports, opening and look-ups.
 
+use crate::entry::Kind;
 use crate::refusal::{Refusal, NO_SUCH, OUT_OF_RANGE};
 
 /// A place in grid units; "y points up".
@@ -42,7 +43,7 @@ pub struct Line {
     pub later: u16,
     pub earlier: u16,
     pub bend: Bend,
-    pub cut: bool,
+    pub kind: Kind,
 }
 
 /// What the look-up of a line gives.
@@ -52,7 +53,7 @@ pub struct LineAnswer {
     pub earlier: u16,
     pub bend: Bend,
     pub bend_place: Place,
-    pub cut: bool,
+    pub kind: Kind,
 }
 
 /// A drawing; k is the number of `points`, and point p is `points[p - 1]`.
@@ -81,9 +82,9 @@ pub fn open(n: u16) -> Result<Drawing, Refusal> {
             opening_point(3, 2, 0, 0),
         ],
         lines: vec![
-            cut_line(2, 1, Bend::None),
-            cut_line(3, 1, Bend::Right(1)),
-            cut_line(3, 2, Bend::Left(1)),
+            plain_line(2, 1, Bend::None),
+            plain_line(3, 1, Bend::Right(1)),
+            plain_line(3, 2, Bend::Left(1)),
         ],
     })
 }
@@ -99,13 +100,14 @@ fn opening_point(x: i64, y: i64, dl: u16, dr: u16) -> Point {
     }
 }
 
-/// "line 1-2 without a port, 3-1 at right port 1 of point 1, 3-2 at left port 1 of point 2, all cut"
-fn cut_line(later: u16, earlier: u16, bend: Bend) -> Line {
+/// "line 1-2 without a port, 3-1 at right port 1 of point 1, 3-2 at left port 1 of point 2, all cut":
+/// none is marked, so all are plain.
+fn plain_line(later: u16, earlier: u16, bend: Bend) -> Line {
     Line {
         later,
         earlier,
         bend,
-        cut: true,
+        kind: Kind::Plain,
     }
 }
 
@@ -194,7 +196,8 @@ impl Drawing {
         Ok(self.point(point).place)
     }
 
-    /// "a line's ends, bend and cut flag"; 23 if there is no such line.
+    /// "a line's ends, bend" and its kind, "a drawing keeps the outcome for each line, and the line's
+    /// look-up gives it"; 23 if there is no such line.
     pub fn line(&self, number: usize) -> Result<LineAnswer, Refusal> {
         let line = self.lines.get(number).ok_or(Refusal::new(NO_SUCH, 0))?;
         Ok(LineAnswer {
@@ -202,18 +205,18 @@ impl Drawing {
             earlier: line.earlier,
             bend: line.bend,
             bend_place: self.bend_of(line),
-            cut: line.cut,
+            kind: line.kind,
         })
     }
 
-    /// "some cut line ending at a given point, or none exactly if there is none"; 23 if there is no
-    /// such point.
+    /// "some cut line ending at a given point, or none exactly if there is none", feeders among them;
+    /// 23 if there is no such point.
     pub fn cut_line_at(&self, point: u16) -> Result<Option<usize>, Refusal> {
         self.known_point(point)?;
         Ok(self
             .lines
             .iter()
-            .position(|l| l.cut && [l.later, l.earlier].contains(&point)))
+            .position(|l| l.kind.is_cut() && [l.later, l.earlier].contains(&point)))
     }
 
     /// "23 no such point": only points 1 to k are there.
@@ -268,6 +271,16 @@ mod tests {
         assert_eq!(drawing.cut_line_at(4), Ok(None));
         let number = drawing.cut_line_at(5).unwrap().unwrap();
         let line = drawing.line(number).unwrap();
-        assert!(line.cut && line.later == 5);
+        assert_eq!((line.kind, line.later), (Kind::Plain, 5));
+    }
+
+    // "A feeder is a cut line"
+    #[test]
+    fn a_point_with_a_feeder_has_a_cut_line() {
+        let mut drawing = open(6).unwrap();
+        drawing.add(&[0x8001, 0x4003]).unwrap();
+        assert_eq!(drawing.cut_line_at(4), Ok(Some(4)));
+        assert_eq!(drawing.line(3).unwrap().kind, Kind::Guide);
+        assert_eq!(drawing.line(4).unwrap().kind, Kind::Feeder);
     }
 }

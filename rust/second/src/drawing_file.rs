@@ -1,9 +1,9 @@
 //! "Drawing file, finished drawings only: 44 48, n, s, width, height (the largest y); per point
 //! 50 4F, x, y; per line 4C 4E, later point, earlier point, bend x, bend y, 1 for cut or 0 for
-//! guide; 45 4E."
+//! guide; 45 4E." "A line's last field in a drawing file is 2 for a feeder".
 
 use crate::drawing::{open, Drawing, Place};
-use crate::entry::Entry;
+use crate::entry::{Entry, Kind};
 use crate::promise::{Laid, Layout};
 use crate::records::{put, Reader, DRAWING_HEADER, DRAWING_LINE, DRAWING_POINT, END};
 use crate::refusal::{Refusal, NOT_ITS_DRAWING, OUT_OF_RANGE, UNFINISHED};
@@ -41,6 +41,24 @@ fn numbers(drawing: &Drawing, place: Place) -> [u16; 2] {
     [number(drawing, place.x), number(drawing, place.y)]
 }
 
+/// A line's last field: "1 for cut or 0 for guide", "2 for a feeder".
+fn field_of(kind: Kind) -> u16 {
+    match kind {
+        Kind::Guide => 0,
+        Kind::Plain => 1,
+        Kind::Feeder => 2,
+    }
+}
+
+/// The same the other way: "a line field above 2 is read as plain".
+fn kind_of(field: u16) -> Kind {
+    match field {
+        0 => Kind::Guide,
+        2 => Kind::Feeder,
+        _ => Kind::Plain,
+    }
+}
+
 /// The drawing file; 22 while k < n.
 pub fn write(drawing: &Drawing) -> Result<Vec<u8>, Refusal> {
     if !drawing.is_finished() {
@@ -59,7 +77,7 @@ pub fn write(drawing: &Drawing) -> Result<Vec<u8>, Refusal> {
     }
     for line in &drawing.lines {
         let [x, y] = numbers(drawing, drawing.bend_of(line));
-        let record = [line.later, line.earlier, x, y, u16::from(line.cut)];
+        let record = [line.later, line.earlier, x, y, field_of(line.kind)];
         put(&mut bytes, DRAWING_LINE, &record);
     }
     put(&mut bytes, END, &[]);
@@ -159,24 +177,25 @@ fn read_point(reader: &mut Reader) -> Result<[u16; 2], Refusal> {
     Ok([reader.number()?, reader.number()?])
 }
 
-/// "On reading, the earlier point is a plain 16-bit number without a guide bit, and any last field
-/// but 0 is taken as cut"; the bend is judged by 11.
+/// "On reading, the earlier point is a plain 16-bit number without a guide bit", and without a feeder
+/// bit; the bend, and a last field above 2, are judged by 11.
 fn read_line(reader: &mut Reader) -> Result<LineRecord, Refusal> {
     let place = reader.mark(DRAWING_LINE)?;
     let later = reader.number()?;
     let point = reader.number()?;
     let bend = [reader.number()?, reader.number()?];
-    let guide = reader.number()? == 0;
+    let kind = kind_of(reader.number()?);
     Ok(LineRecord {
         place,
         later,
-        entry: Entry { point, guide },
+        entry: Entry { point, kind },
         bend,
     })
 }
 
 /// "4 to 9 on each point's group of lines in turn (the lines in succession that name it as later,
-/// perhaps none; place, the offset where the group starts or would start)"
+/// perhaps none; place, the offset where the group starts or would start)"; no field can mark a line
+/// both guide and feeder, so 13 is never given.
 fn list_groups(drawing: &mut Drawing, lines: &[LineRecord], end: usize) -> Result<(), Refusal> {
     let mut rest = lines;
     for point in 1..=drawing.n {
@@ -184,7 +203,7 @@ fn list_groups(drawing: &mut Drawing, lines: &[LineRecord], end: usize) -> Resul
         let count = rest.iter().take_while(|line| line.later == point).count();
         let (group, after) = rest.split_at(count);
         rest = after;
-        let entries: Vec<Entry> = group.iter().map(|line| line.entry).collect();
+        let entries: Vec<Option<Entry>> = group.iter().map(|line| Some(line.entry)).collect();
         drawing
             .list_point(point, &entries)
             .map_err(|refusal| refusal.at(place))?;

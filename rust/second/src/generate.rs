@@ -1,7 +1,7 @@
 //! Orders and lists of calls for tests: random ones from fixed seeds, and every order of a few points.
 
 use crate::drawing::{open, Drawing};
-use crate::entry::{Entry, GUIDE_BIT};
+use crate::entry::{FEEDER_BIT, GUIDE_BIT, POINT_BITS};
 use crate::records::{
     put, DRAWING_HEADER, DRAWING_LINE, DRAWING_POINT, END, ORDER_HEADER, ORDER_POINT, SCALE,
 };
@@ -67,7 +67,7 @@ pub const STYLES: [Style; 5] = [
 pub struct Order {
     pub n: u16,
     pub s: u16,
-    /// The entries of points 2 and 3: 1; 1, 2; guide or not.
+    /// The entries of points 2 and 3: 1; 1, 2; each guide, plain or feeder.
     pub opening: [u16; 3],
     /// The entries of points 4 to n, one adding call each.
     pub calls: Vec<Vec<u16>>,
@@ -101,7 +101,7 @@ impl Order {
         let mut boundary = vec![1, 3, 2];
         let mut calls: Vec<Vec<u16>> = Vec::new();
         for (point, call) in (4..n).zip(&self.calls) {
-            let first = Entry::split(call[0]).point;
+            let first = call[0] & POINT_BITS;
             let l = boundary.iter().position(|&w| w == first).unwrap_or(0);
             cover(&mut boundary, l, l + call.len() - 1, point);
             calls.push(call.clone());
@@ -116,27 +116,60 @@ impl Order {
         }
     }
 
-    /// The same order with all lines cut and scale 1.
+    /// The same order with all lines plain and scale 1.
     pub fn plain(&self) -> Order {
-        let cut = |&entry: &u16| entry & !GUIDE_BIT;
-        Order {
-            n: self.n,
-            s: 1,
-            opening: self.opening.map(|entry| cut(&entry)),
-            calls: self
-                .calls
-                .iter()
-                .map(|call| call.iter().map(cut).collect())
-                .collect(),
+        let mut order = self.clone();
+        order.s = 1;
+        order.entries_mut().for_each(|entry| *entry &= POINT_BITS);
+        order
+    }
+
+    /// The entries of all points in line order.
+    pub fn entries(&self) -> impl Iterator<Item = &u16> {
+        self.opening.iter().chain(self.calls.iter().flatten())
+    }
+
+    /// The same, to be changed.
+    pub fn entries_mut(&mut self) -> impl Iterator<Item = &mut u16> {
+        self.opening
+            .iter_mut()
+            .chain(self.calls.iter_mut().flatten())
+    }
+}
+
+/// How many of eight entries are guides and how many feeders, on average; the others are plain.
+#[derive(Clone, Copy)]
+struct Shares {
+    guides: usize,
+    feeders: usize,
+}
+
+impl Shares {
+    /// Any of them, none and all eight of each kind included.
+    fn random(random: &mut Random) -> Self {
+        let guides = random.below(9);
+        let feeders = random.below(9 - guides);
+        Shares { guides, feeders }
+    }
+
+    /// Marks each entry at random.
+    fn mark(self, entries: &mut [u16], random: &mut Random) {
+        for entry in entries {
+            let chance = random.below(8);
+            if chance < self.guides {
+                *entry |= GUIDE_BIT;
+            } else if chance < self.guides + self.feeders {
+                *entry |= FEEDER_BIT;
+            }
         }
     }
 }
 
-/// A random order of n points in a style, n from 3 to 1,024, with guides at random and a scale from
-/// 1 to 8.
+/// A random order of n points in a style, n from 3 to 1,024, with guides and feeders at random and a
+/// scale from 1 to 8.
 pub fn order(n: u16, style: Style, random: &mut Random) -> Order {
     let crowded = random.between(1, 3) as u16;
-    let guides_in_8 = random.below(9);
+    let shares = Shares::random(random);
     let mut boundary = vec![1, 3, 2];
     let mut calls = Vec::new();
     for point in 4..=n {
@@ -146,12 +179,12 @@ pub fn order(n: u16, style: Style, random: &mut Random) -> Order {
             run(&boundary, style, crowded, random)
         };
         let mut entries = boundary[l..=r].to_vec();
-        guides(&mut entries, guides_in_8, random);
+        shares.mark(&mut entries, random);
         calls.push(entries);
         cover(&mut boundary, l, r, point);
     }
     let mut opening = [1, 1, 2];
-    guides(&mut opening, guides_in_8, random);
+    shares.mark(&mut opening, random);
     Order {
         n,
         s: random.between(1, 8) as u16,
@@ -161,18 +194,20 @@ pub fn order(n: u16, style: Style, random: &mut Random) -> Order {
 }
 
 /// The order that bytes choose, up to 1,024 points: two bytes a point, the first for the start of its
-/// run, the second for its length, with a guide to each end for the top bit of either.
+/// run, the second for its length; by three with remainder each also says the kind of the line to one
+/// end of the run.
 pub fn order_by(choices: &[u8]) -> Order {
     let mut boundary = vec![1, 3, 2];
     let mut calls = Vec::new();
     for (point, choice) in (4..1024).zip(choices.chunks_exact(2)) {
-        let [left, right] = [choice[0], choice[1]].map(|byte| usize::from(byte & 0x7F));
+        let [left, right] = [choice[0], choice[1]].map(|byte| usize::from(byte / 3));
         let most = boundary.len() - 1;
         let l = left % most;
         let r = l + 1 + right % (most - l);
         let mut entries = boundary[l..=r].to_vec();
-        entries[0] |= u16::from(choice[0] >> 7) << 15;
-        entries[r - l] |= u16::from(choice[1] >> 7) << 15;
+        let [mark_left, mark_right] = [choice[0], choice[1]].map(mark_by);
+        entries[0] |= mark_left;
+        entries[r - l] |= mark_right;
         calls.push(entries);
         cover(&mut boundary, l, r, point);
     }
@@ -182,6 +217,15 @@ pub fn order_by(choices: &[u8]) -> Order {
         s: 1 + u16::from(choices.last().map_or(0, |byte| byte % 8)),
         opening: [1, 1, 2],
         calls,
+    }
+}
+
+/// The mark that a byte chooses: none, guide or feeder.
+fn mark_by(choice: u8) -> u16 {
+    match choice % 3 {
+        0 => 0,
+        1 => GUIDE_BIT,
+        _ => FEEDER_BIT,
     }
 }
 
@@ -223,7 +267,7 @@ fn crowded_run(boundary: &[u16], crowded: u16, random: &mut Random) -> (usize, u
 pub fn calls(n: u16, style: Style, random: &mut Random) -> Vec<Vec<u16>> {
     let mut drawing = open(n).expect("n from 3 to 1,024");
     let crowded = random.between(1, 3) as u16;
-    let guides_in_8 = random.below(9);
+    let shares = Shares::random(random);
     let wrong_in_8 = random.below(7);
     let most = random.below(4 * usize::from(n));
     let mut calls = Vec::new();
@@ -233,10 +277,14 @@ pub fn calls(n: u16, style: Style, random: &mut Random) -> Vec<Vec<u16>> {
         let style = if whole { Style::Whole } else { style };
         let (l, r) = run(&drawing.boundary, style, crowded, random);
         let mut entries = drawing.boundary[l..=r].to_vec();
-        if random.below(8) < wrong_in_8 {
+        let wrong = random.below(8) < wrong_in_8;
+        if wrong {
             spoil(&mut entries, &drawing, random);
         }
-        guides(&mut entries, guides_in_8, random);
+        shares.mark(&mut entries, random);
+        if wrong && random.below(4) == 0 {
+            mark_both(&mut entries, random);
+        }
         let finished = drawing.is_finished();
         let accepted = drawing.add(&entries).is_ok();
         if finished && !accepted {
@@ -251,7 +299,7 @@ pub fn calls(n: u16, style: Style, random: &mut Random) -> Vec<Vec<u16>> {
 fn spoil(entries: &mut Vec<u16>, drawing: &Drawing, random: &mut Random) {
     let at = random.below(entries.len());
     let other = random.below(entries.len());
-    match random.below(10) {
+    match random.below(11) {
         0 => entries.truncate(random.below(2)),
         1 => entries.swap(at, other),
         2 => entries.insert(at, entries[other]),
@@ -263,6 +311,7 @@ fn spoil(entries: &mut Vec<u16>, drawing: &Drawing, random: &mut Random) {
         8 => {
             entries.remove(at);
         }
+        9 => mark_both(entries, random),
         _ => {
             let length = random.below(9);
             *entries = (0..length).map(|_| random.below(12) as u16).collect();
@@ -270,12 +319,11 @@ fn spoil(entries: &mut Vec<u16>, drawing: &Drawing, random: &mut Random) {
     }
 }
 
-/// Sets the guide bit of each entry in so many of eight cases.
-fn guides(entries: &mut [u16], guides_in_8: usize, random: &mut Random) {
-    for entry in entries {
-        if random.below(8) < guides_in_8 {
-            *entry |= GUIDE_BIT;
-        }
+/// Marks an entry both guide and feeder, if there is one.
+fn mark_both(entries: &mut [u16], random: &mut Random) {
+    if !entries.is_empty() {
+        let at = random.below(entries.len());
+        entries[at] |= GUIDE_BIT | FEEDER_BIT;
     }
 }
 
@@ -305,7 +353,7 @@ pub fn record_places(bytes: &[u8]) -> Vec<usize> {
     places
 }
 
-/// Every order of n points, n at least 3, by every choice of runs; all lines cut, scale 1.
+/// Every order of n points, n at least 3, by every choice of runs; all lines plain, scale 1.
 pub fn all_orders(n: u16) -> Vec<Order> {
     let mut orders = Vec::new();
     extend_orders(n, &[1, 3, 2], &mut Vec::new(), &mut orders);
@@ -341,6 +389,7 @@ fn extend_orders(n: u16, boundary: &[u16], calls: &mut Vec<Vec<u16>>, orders: &m
 #[cfg(test)]
 mod tests {
     use super::*;
+    use crate::entry::Kind;
 
     // The number of orders of n points is 1, 1, 3, 15, 105, 945 for n from 3.
     #[test]
@@ -357,22 +406,53 @@ mod tests {
         assert_ne!(make(5), make(6));
     }
 
-    // The first points of an order are an order, and so is the order without guides and scale.
+    // The first points of an order are an order, and so is the order without marks and scale.
     #[test]
     fn shorter_and_plain_orders_are_accepted() {
         for style in STYLES {
-            let order = order(40, style, &mut Random::new(40));
+            let order = order(40, style, &mut Random::new(41));
             assert_eq!(order.shortened(40).plain(), order.plain());
             for n in 3..=40 {
                 let drawing = crate::order_file::read(&order.shortened(n).bytes()).unwrap();
                 assert_eq!((drawing.n, drawing.s), (n, order.s));
             }
             let plain = crate::order_file::read(&order.plain().bytes()).unwrap();
-            assert!(plain.s == 1 && plain.lines.iter().all(|line| line.cut));
+            assert!(plain.s == 1 && plain.lines.iter().all(|line| line.kind == Kind::Plain));
         }
     }
 
-    // Any bytes choose an accepted order.
+    /// How many lines of a drawing are guides, plain and feeders.
+    fn counts(drawing: &Drawing) -> [usize; 3] {
+        let lines = || drawing.lines.iter();
+        [Kind::Guide, Kind::Plain, Kind::Feeder]
+            .map(|kind| lines().filter(|line| line.kind == kind).count())
+    }
+
+    // Drawings of one kind only, of each two and of all three come up, in orders and in calls.
+    #[test]
+    fn all_kinds_come_up() {
+        let (mut in_orders, mut in_calls) = ([false; 8], [false; 8]);
+        let index = |drawing: &Drawing| {
+            let bits = counts(drawing).map(|count| usize::from(count > 0));
+            bits[0] + 2 * bits[1] + 4 * bits[2]
+        };
+        let mut random = Random::new(9);
+        for _ in 0..2000 {
+            let order = order(6, Style::Mixed, &mut random);
+            let mut drawing = crate::order_file::read(&order.bytes()).unwrap();
+            in_orders[index(&drawing)] = true;
+            drawing = open(6).unwrap();
+            for call in calls(6, Style::Mixed, &mut random) {
+                let _ = drawing.add(&call);
+            }
+            drawing.lines.drain(..3);
+            in_calls[index(&drawing)] = true;
+        }
+        assert_eq!(in_orders, [false, true, true, true, true, true, true, true]);
+        assert_eq!(in_calls, [true; 8]);
+    }
+
+    // Any bytes choose an accepted order, and all kinds come up.
     #[test]
     fn bytes_choose_orders() {
         let mut random = Random::new(3);
@@ -380,6 +460,7 @@ mod tests {
             let choices: Vec<u8> = (0..length).map(|_| random.number() as u8).collect();
             let drawing = crate::order_file::read(&order_by(&choices).bytes()).unwrap();
             assert_eq!(usize::from(drawing.n), (length / 2).min(1020) + 4);
+            assert!(length < 500 || !counts(&drawing).contains(&0));
         }
     }
 
@@ -397,7 +478,7 @@ mod tests {
                 seen.extend(drawing.is_finished().then_some(0));
             }
         }
-        assert!(seen.into_iter().eq([0, 5, 6, 7, 8, 9, 21]));
+        assert!(seen.into_iter().eq([0, 5, 6, 7, 8, 9, 13, 21]));
     }
 
     // Each style gives accepted orders, and all scales occur.

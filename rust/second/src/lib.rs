@@ -1,4 +1,5 @@
-//! A second implementation of document 01, "One-bend panel drawings".
+//! A second implementation of document 01, "One-bend panel drawings", with wish 1 of document 02,
+//! "Double grooves for feeders".
 
 pub mod drawing;
 pub mod drawing_file;
@@ -15,4 +16,5 @@ mod records;
 
 pub use convert::{draw, undraw};
 pub use drawing::{open, Bend, Drawing, Line, LineAnswer, Place, Point};
+pub use entry::Kind;
 pub use refusal::Refusal;

@@ -1,10 +1,14 @@
 //! Cutter moves.
 
+use std::iter;
+
 use crate::drawing::{Drawing, Line, Place};
 use crate::drawing_file::written;
+use crate::entry::Kind;
 use crate::refusal::{Refusal, NO_SUCH, TOOL_NUMBER, UNFINISHED};
 
-const MOVES_PER_LINE: usize = 5;
+/// "Each cut line gives five moves", each time that it is cut.
+const MOVES_PER_CUT: usize = 5;
 
 /// "a tool is three whole numbers of eighths of a millimetre, pitch 1 to 80, depth 1 to 40,
 /// clearance 1 to 80, held as f32"
@@ -29,15 +33,15 @@ pub enum Move {
 pub fn move_at(drawing: &Drawing, tool: Tool, number: usize) -> Result<Move, Refusal> {
     test_tool(tool)?;
     test_finished(drawing)?;
-    let line = cut_lines(drawing)
-        .nth(number / MOVES_PER_LINE)
+    let line = cuts(drawing)
+        .nth(number / MOVES_PER_CUT)
         .ok_or(Refusal::new(NO_SUCH, 0))?;
     let at = |place: Place| {
         let x = millimetres(drawing, tool, place.x);
         let y = millimetres(drawing, tool, place.y);
         (x, y)
     };
-    Ok(match number % MOVES_PER_LINE {
+    Ok(match number % MOVES_PER_CUT {
         0 => {
             let (x, y) = at(drawing.point(line.later).place);
             Move::Travel(x, y)
@@ -55,15 +59,25 @@ pub fn move_at(drawing: &Drawing, tool: Tool, number: usize) -> Result<Move, Ref
     })
 }
 
-/// "Each cut line gives five moves"; 22 while k < n.
+/// How many moves a drawing gives; 22 while k < n.
 pub fn move_count(drawing: &Drawing) -> Result<usize, Refusal> {
     test_finished(drawing)?;
-    Ok(MOVES_PER_LINE * cut_lines(drawing).count())
+    Ok(MOVES_PER_CUT * cuts(drawing).count())
 }
 
-/// "the cut lines in line order"
-fn cut_lines(drawing: &Drawing) -> impl Iterator<Item = &Line> {
-    drawing.lines.iter().filter(|line| line.cut)
+/// "the cut lines in line order", each as often as it is cut.
+fn cuts(drawing: &Drawing) -> impl Iterator<Item = &Line> {
+    let lines = drawing.lines.iter();
+    lines.flat_map(|line| iter::repeat_n(line, times_cut(line.kind)))
+}
+
+/// "A feeder gives its five moves twice in succession."
+fn times_cut(kind: Kind) -> usize {
+    match kind {
+        Kind::Guide => 0,
+        Kind::Plain => 1,
+        Kind::Feeder => 2,
+    }
 }
 
 /// "Any other f32 there gives 12."
@@ -170,7 +184,7 @@ mod tests {
     #[test]
     fn moves_of_an_opened_drawing() {
         let mut drawing = open(3).unwrap();
-        drawing.lines[1].cut = false;
+        drawing.lines[1].kind = Kind::Guide;
         drawing.s = 3;
         let tool = Tool {
             pitch: 4.0,
@@ -194,5 +208,27 @@ mod tests {
             assert_eq!(move_at(&drawing, tool, number), Ok(wanted));
         }
         assert_eq!(move_at(&drawing, tool, 10), Err(Refusal::new(23, 0)));
+    }
+
+    // "A feeder gives its five moves twice in succession": the five, then the same five again.
+    #[test]
+    fn the_moves_of_a_feeder_come_twice() {
+        let mut drawing = open(3).unwrap();
+        let all = |drawing: &Drawing| -> Vec<Move> {
+            let count = move_count(drawing).unwrap();
+            let end = move_at(drawing, tool(), count);
+            assert_eq!(end, Err(Refusal::new(23, 0)));
+            (0..count)
+                .map(|number| move_at(drawing, tool(), number).unwrap())
+                .collect()
+        };
+        let once = all(&drawing);
+        let [first, second, third] = [0, 5, 10].map(|at| &once[at..at + 5]);
+        drawing.lines[1].kind = Kind::Feeder;
+        assert_eq!(all(&drawing), [first, second, second, third].concat());
+        drawing.lines[0].kind = Kind::Guide;
+        assert_eq!(all(&drawing), [second, second, third].concat());
+        drawing.lines[2].kind = Kind::Feeder;
+        assert_eq!(all(&drawing), [second, second, third, third].concat());
     }
 }

@@ -37,13 +37,13 @@ fn read_scale(reader: &mut Reader) -> Result<u16, Refusal> {
     Ok(s)
 }
 
-/// "50 54, a count c, c entries", with the offset of the mark.
-fn read_point(reader: &mut Reader) -> Result<(usize, Vec<Entry>), Refusal> {
+/// "50 54, a count c, c entries", with the offset of the mark; an entry marked both is none.
+fn read_point(reader: &mut Reader) -> Result<(usize, Vec<Option<Entry>>), Refusal> {
     let place = reader.mark(ORDER_POINT)?;
     let count = reader.number()?;
     let entries = (0..count)
         .map(|_| reader.number().map(Entry::split))
-        .collect::<Result<Vec<Entry>, Refusal>>()?;
+        .collect::<Result<Vec<Option<Entry>>, Refusal>>()?;
     Ok((place, entries))
 }
 
@@ -66,7 +66,7 @@ pub fn write(drawing: &Drawing) -> Result<Vec<u8>, Refusal> {
         numbers.extend(lines.iter().map(|line| {
             let entry = Entry {
                 point: line.earlier,
-                guide: !line.cut,
+                kind: line.kind,
             };
             entry.join()
         }));

@@ -26,6 +26,8 @@ pub const BYTES_AFTER: u16 = 10;
 pub const NOT_ITS_DRAWING: u16 = 11;
 /// 12: tool number out of range.
 pub const TOOL_NUMBER: u16 = 12;
+/// 13: an entry marked both guide and feeder.
+pub const BOTH_MARKS: u16 = 13;
 /// 21: adding when k = n.
 pub const FINISHED: u16 = 21;
 /// 22: drawing or moves wanted while k < n.

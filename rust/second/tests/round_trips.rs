@@ -1,7 +1,7 @@
 //! Order files to drawing files and back, sizes, output lengths, broken files.
 
 use second::generate::{all_orders, order, record_places, Order, Random, STYLES};
-use second::{draw, drawing_file, open, order_file, undraw, Refusal};
+use second::{draw, drawing_file, open, order_file, undraw, Kind, Refusal};
 
 /// `draw` or `undraw`.
 type Convert = fn(&[u8], &mut [u8]) -> Result<usize, Refusal>;
@@ -70,7 +70,12 @@ fn calls_give_the_drawing_of_the_file() {
         let read = order_file::read(&order.bytes()).unwrap();
         called.s = read.s;
         for (line, entry) in called.lines.iter_mut().zip(order.opening) {
-            line.cut = entry < 0x8000;
+            line.kind = match entry >> 14 {
+                0 => Kind::Plain,
+                1 => Kind::Feeder,
+                2 => Kind::Guide,
+                _ => panic!("{entry:x} is marked both"),
+            };
         }
         assert_eq!(called, read);
     }
@@ -174,7 +179,8 @@ fn files_with_a_changed_byte() {
     }
 }
 
-// "11: the first differing byte": coordinates, width, height and the cut flag are compared last.
+// "11: the first differing byte": coordinates, width, height are compared last, and so is the high
+// byte of a line's last field.
 #[test]
 fn changed_coordinates_give_11() {
     for order in random_orders(&[3, 8]) {
@@ -184,7 +190,7 @@ fn changed_coordinates_give_11() {
             let compared = match &drawing[place..place + 2] {
                 [0x44, 0x48] => 6..10,
                 [0x50, 0x4F] => 2..6,
-                [0x4C, 0x4E] => 6..10,
+                [0x4C, 0x4E] => 6..11,
                 _ => 0..0,
             };
             for offset in compared {
@@ -194,6 +200,95 @@ fn changed_coordinates_give_11() {
                 assert_eq!(drawing_file::read(&wrong), expected);
             }
         }
+    }
+}
+
+// "A line's last field in a drawing file is 2 for a feeder", "a line field above 2 is read as plain and
+// so stays 11": at its first byte that isn't that of 1.
+#[test]
+fn last_fields_of_lines() {
+    for order in random_orders(&[3, 4, 9]) {
+        let drawing = drawing_of(&order.bytes(), order.n);
+        let lines = record_places(&drawing).split_off(usize::from(order.n) + 1);
+        for (line, place) in lines[..3 * usize::from(order.n) - 6].iter().enumerate() {
+            for field in [0, 1, 2, 3, 4, 255, 256, 257, 258, 0x0200, 0x8000, 65535u16] {
+                let mut changed = drawing.clone();
+                changed[place + 10..place + 12].copy_from_slice(&field.to_be_bytes());
+                let kind = match field {
+                    0 => Kind::Guide,
+                    1 => Kind::Plain,
+                    2 => Kind::Feeder,
+                    _ => {
+                        let at = place + 10 + usize::from(field < 256);
+                        let expected = Err(Refusal::new(11, at));
+                        assert_eq!(drawing_file::read(&changed), expected);
+                        continue;
+                    }
+                };
+                let read = drawing_file::read(&changed).unwrap();
+                assert_eq!(read.lines[line].kind, kind);
+                assert_eq!(drawing_file::write(&read), Ok(changed));
+            }
+        }
+    }
+}
+
+/// A record of point 2 or 3, or one of another point, by its index from 0, and the entries it gets.
+type Listed<'a> = (usize, &'a [u16]);
+
+/// The answer to an order file of five points, one of whose records has other entries.
+fn listed((point, entries): Listed) -> Result<usize, Refusal> {
+    let mut points: [&[u16]; 5] = [&[], &[1], &[1, 2], &[1, 3, 2], &[1, 4, 2]];
+    points[point] = entries;
+    let mut bytes = vec![0x48, 0x44, 0, 5];
+    for entries in points {
+        bytes.extend([0x50, 0x54]);
+        bytes.extend((entries.len() as u16).to_be_bytes());
+        bytes.extend(entries.iter().flat_map(|entry| entry.to_be_bytes()));
+    }
+    bytes.extend([0x45, 0x4E]);
+    draw(&bytes, &mut [0; 150])
+}
+
+// "13, an entry marked both guide and feeder", "tested for each entry before 6, and in the records of
+// points 2 and 3 before 4", whatever else is wrong with them; point 1's record knows only 4.
+#[test]
+fn records_with_entries_marked_both() {
+    assert_eq!(listed((0, &[])), Ok(150));
+    let places = [4, 8, 14, 22, 32];
+    let cases: [(Listed, u16); 27] = [
+        ((0, &[1]), 4),
+        ((0, &[0xC001]), 4),
+        ((0, &[0xFFFF; 2000]), 4),
+        ((1, &[]), 4),
+        ((1, &[0x4002]), 4),
+        ((1, &[0x5001]), 4),
+        ((1, &[0xC001]), 13),
+        ((1, &[0xC000]), 13),
+        ((1, &[0xFFFF]), 13),
+        ((1, &[1, 0xC001]), 13),
+        ((1, &[9, 9, 9, 0xC009, 9]), 13),
+        ((1, &[0xC001; 2000]), 13),
+        ((1, &[0x4001; 2000]), 4),
+        ((2, &[0xC001, 2]), 13),
+        ((2, &[1, 0xC002]), 13),
+        ((2, &[0xC001]), 13),
+        ((2, &[2, 1, 0xC000]), 13),
+        ((2, &[0x4002, 0x4001]), 4),
+        ((3, &[]), 5),
+        ((3, &[0xC001]), 5),
+        ((3, &[0, 0xC001]), 6),
+        ((3, &[0xC000, 0]), 13),
+        ((3, &[1, 2, 0xC003]), 13),
+        ((3, &[0xC001; 2000]), 13),
+        ((4, &[1, 3, 0xC002]), 7),
+        ((4, &[1, 0xC003, 2]), 13),
+        ((4, &[1, 2, 0xC004]), 13),
+    ];
+    for ((point, entries), number) in cases {
+        let answer = listed((point, entries));
+        let expected = Err(Refusal::new(number, places[point]));
+        assert_eq!(answer, expected, "point {}: {entries:x?}", point + 1);
     }
 }
 
@@ -213,15 +308,19 @@ fn changed_lines(changes: &[Change]) -> Result<usize, Refusal> {
 }
 
 // "4 to 9 on each point's group of lines in turn", at "the offset where the group starts or would
-// start"; an earlier point above 32,767 is not placed.
+// start"; an earlier point above 16,383 is not placed, and no number there is marked both.
 #[test]
 fn groups_of_lines() {
     assert_eq!(changed_lines(&[]), Ok(34));
-    let cases: [(&[Change], u16, usize); 16] = [
+    let cases: [(&[Change], u16, usize); 23] = [
         (&[(0, 1, 1)], 4, 0),
         (&[(0, 3, 1)], 4, 0),
         (&[(0, 2, 0x8001)], 4, 0),
+        (&[(0, 2, 0x4001)], 4, 0),
+        (&[(0, 2, 0xC001)], 4, 0),
         (&[(1, 3, 0x8001)], 4, 1),
+        (&[(1, 3, 0x4001)], 4, 1),
+        (&[(2, 3, 0xC002)], 4, 1),
         (&[(1, 3, 2)], 4, 1),
         (&[(1, 2, 1)], 4, 0),
         (&[(2, 4, 2)], 4, 1),
@@ -230,6 +329,9 @@ fn groups_of_lines() {
         (&[(4, 0, 3)], 5, 3),
         (&[(3, 4, 0)], 6, 3),
         (&[(5, 4, 0x8002)], 6, 3),
+        (&[(5, 4, 0x4002)], 6, 3),
+        (&[(5, 4, 0xC002)], 6, 3),
+        (&[(5, 4, 0x3FFF)], 6, 3),
         (&[(4, 4, 4)], 6, 3),
         (&[(4, 4, 2)], 8, 3),
         (&[(5, 5, 2)], 9, 3),

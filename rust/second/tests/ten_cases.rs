@@ -1,6 +1,6 @@
 //! K1 to K10, "Ten drawings and refusals".
 
-use second::{open, Bend, Drawing, Place, Refusal};
+use second::{open, Bend, Drawing, Kind, Place, Refusal};
 
 /// A drawing of n points after the given calls, all accepted.
 fn drawn(n: u16, calls: &[&[u16]]) -> Drawing {
@@ -47,15 +47,15 @@ fn k1_opening() {
     assert_eq!((drawing.n, drawing.s, drawing.k()), (3, 1, 3));
     let counts: Vec<(u16, u16)> = drawing.points.iter().map(|p| (p.dl, p.dr)).collect();
     assert_eq!(counts, [(0, 1), (1, 0), (0, 0)]);
-    let lines: Vec<(u16, u16, Bend, bool)> = drawing
+    let lines: Vec<(u16, u16, Bend, Kind)> = drawing
         .lines
         .iter()
-        .map(|line| (line.later, line.earlier, line.bend, line.cut))
+        .map(|line| (line.later, line.earlier, line.bend, line.kind))
         .collect();
     let expected = [
-        (2, 1, Bend::None, true),
-        (3, 1, Bend::Right(1), true),
-        (3, 2, Bend::Left(1), true),
+        (2, 1, Bend::None, Kind::Plain),
+        (3, 1, Bend::Right(1), Kind::Plain),
+        (3, 2, Bend::Left(1), Kind::Plain),
     ];
     assert_eq!(lines, expected);
     assert_eq!(bend(&drawing, 2, 1), (0, 0));
