@@ -6,6 +6,19 @@
 #include <stdlib.h>
 #include "panel.h"
 
+/* The word for a kind of line. */
+static const char *kind_word(uint64_t kind)
+{
+    switch (kind) {
+    case PANEL_KIND_GUIDE:
+        return "guide";
+    case PANEL_KIND_FEEDER:
+        return "feeder";
+    default:
+        return "plain";
+    }
+}
+
 /* Writes the lines that end at the point. */
 static void tell_lines(const uint8_t *order, size_t length, size_t point)
 {
@@ -14,7 +27,7 @@ static void tell_lines(const uint8_t *order, size_t length, size_t point)
     for (size_t number = 0; panel_line(order, length, number, &line, &refusal) == PANEL_FOUND; number++)
         if (line.later == point || line.earlier == point)
             printf("line %zu: %" PRIu64 " to %" PRIu64 ", %s\n", number, line.later, line.earlier,
-                   line.cut ? "cut" : "guide");
+                   kind_word(line.kind));
 }
 
 int main(int count, char **arguments)

@@ -31,8 +31,9 @@
 /* The words of an answer: number and place. */
 #define PANEL_ANSWER_WORDS 2
 
-/* The top bit of an entry says guide. */
+/* An entry is an earlier point in its low 14 bits, with one of these bits or neither for a plain line. Both give 13. */
 #define PANEL_GUIDE 0x8000
+#define PANEL_FEEDER 0x4000
 
 /* A refusal: its number, its place, and with number 24 which buffer was short, else 0. */
 struct panel_refusal {
@@ -52,6 +53,7 @@ struct panel_refusal {
 #define PANEL_EXTRA_BYTES 10
 #define PANEL_OTHER_DRAWING 11
 #define PANEL_BAD_TOOL 12
+#define PANEL_BOTH_MARKS 13
 #define PANEL_FINISHED 21
 #define PANEL_UNFINISHED 22
 #define PANEL_NO_SUCH 23
@@ -77,10 +79,10 @@ struct panel_place {
     uint64_t x, y;
 };
 
-/* A line: its ends, the kind of its bend, the port's index from 1 (0 for straight), the place of the bend, 1 for cut or 0 for guide.
+/* A line: its ends, the kind of its bend, the port's index from 1 (0 for straight), the place of the bend, the line's own kind.
    A left or right port is the earlier point's, a middle port the later point's. Line 1-2 is straight; its bend is the place of point 1. */
 struct panel_seen_line {
-    uint64_t later, earlier, bend, port, bend_x, bend_y, cut;
+    uint64_t later, earlier, bend, port, bend_x, bend_y, kind;
 };
 
 /* Kinds of bend. */
@@ -89,11 +91,17 @@ struct panel_seen_line {
 #define PANEL_BEND_RIGHT 2
 #define PANEL_BEND_MIDDLE 3
 
+/* Kinds of line. A guide isn't cut; plain lines and feeders are cut lines, a feeder is cut twice. */
+#define PANEL_KIND_GUIDE 0
+#define PANEL_KIND_PLAIN 1
+#define PANEL_KIND_FEEDER 2
+
 #ifdef __cplusplus
 extern "C" {
 #endif
 
-/* Order file to drawing file, and back: the number of bytes written, 0 for a refusal. 24 if `out` is too short. */
+/* Order file to drawing file, and back: the number of bytes written, 0 for a refusal. 24 if `out` is too short.
+   The last field of a line in a drawing file is its kind. */
 uint64_t panel_draw(const uint8_t *order, size_t order_length, uint8_t *out, size_t out_length,
                     struct panel_refusal *refusal);
 uint64_t panel_undraw(const uint8_t *drawing, size_t drawing_length, uint8_t *out, size_t out_length,
@@ -101,13 +109,14 @@ uint64_t panel_undraw(const uint8_t *drawing, size_t drawing_length, uint8_t *ou
 
 /* Cutter move `number`, from 0, of the drawing of an order file: its kind.
    Travel and cut put x and y into `at`, plunge and lift the height and 0, in millimetres.
+   A plain line gives five moves, a feeder the same five twice in succession, a guide none.
    Refused are the order file, then 12 for the tool, 23 if there is no such move. */
 uint64_t panel_move(const uint8_t *order, size_t order_length, float pitch, float depth, float clearance,
                     size_t number, float at[2], struct panel_refusal *refusal);
 
 /* Look-ups of the drawing of an order file. Points count from 1, lines from 0.
-   `panel_cut_line` gives the number of a cut line that ends at the point, one of them if there are more; if there is none,
-   it returns PANEL_NONE and `line` stays. Refused are the order file, then 23 if there is no such point or line. */
+   `panel_cut_line` gives the number of a cut line, plain or feeder, that ends at the point, one of them if there are more;
+   if there is none, it returns PANEL_NONE and `line` stays. Refused are the order file, then 23 if there is no such point or line. */
 uint64_t panel_point(const uint8_t *order, size_t order_length, size_t point, struct panel_place *place,
                      struct panel_refusal *refusal);
 uint64_t panel_line(const uint8_t *order, size_t order_length, size_t number, struct panel_seen_line *line,

@@ -21,8 +21,12 @@ options='-Wall -Wextra -Werror -Iinclude'
 cc -std=c99 $options -o target/draw_c examples/draw.c "$library"
 cc -std=c99 $options -o target/look_c examples/look.c "$library"
 target/draw_c <examples/k4.order | cmp - examples/k4.drawing
+target/draw_c <examples/feeders.order | cmp - examples/feeders.drawing
 target/look_c 4 <examples/k4.order | diff - <(
-    printf '%s\n' 'point 4 at (5,3)' 'line 3: 4 to 1, cut' 'line 4: 4 to 3, cut' 'line 6: 5 to 4, cut'
+    printf '%s\n' 'point 4 at (5,3)' 'line 3: 4 to 1, plain' 'line 4: 4 to 3, plain' 'line 6: 5 to 4, plain'
+)
+target/look_c 3 <examples/feeders.order | diff - <(
+    printf '%s\n' 'point 3 at (7,2)' 'line 1: 3 to 1, guide' 'line 2: 3 to 2, feeder' 'line 4: 4 to 3, plain' 'line 7: 5 to 3, guide'
 )
 if target/draw_c <examples/k4.order >/dev/full 2>/dev/null; then
     echo "compare.sh: draw_c does not tell a failed write" >&2

@@ -4,6 +4,12 @@ use crate::raw::{panel_calls, SHORT_ANSWERS};
 use crate::refusal::Refusal;
 use crate::sizes::{drawing_length, ANSWER_WORDS, FEWEST_POINTS, MOST_POINTS};
 
+/// The bit of an entry that says guide.
+pub const GUIDE: u16 = 0x8000;
+
+/// The bit of an entry that says feeder.
+pub const FEEDER: u16 = 0x4000;
+
 /// What a list of calls gave.
 #[derive(Clone, Debug, PartialEq, Eq)]
 pub struct Called {
@@ -15,10 +21,16 @@ pub struct Called {
 
 /// Opens a drawing for n points and makes the calls, each a list of entries; 3 if n is out of range.
 ///
+/// An entry is an earlier point in its low 14 bits, with [`GUIDE`] or [`FEEDER`] or neither for a plain
+/// line; an entry with both is refused with 13 at its index, before anything is asked of its point.
+///
 /// ```
-/// let called = panel::calls(4, &[vec![1, 3], vec![1, 3, 2]])?;
-/// let refused = panel::Refusal { number: 9, place: 0 };
-/// assert_eq!(called.answers, [Err(refused), Ok(())]);
+/// use panel::{Refusal, FEEDER, GUIDE};
+///
+/// let marked_both = vec![1, GUIDE | FEEDER | 3, 2];
+/// let called = panel::calls(4, &[vec![1, 3], marked_both, vec![FEEDER | 1, 3, GUIDE | 2]])?;
+/// let [not_whole, both] = [(9, 0), (13, 1)].map(|(number, place)| Refusal { number, place });
+/// assert_eq!(called.answers, [Err(not_whole), Err(both), Ok(())]);
 /// assert_eq!(called.drawing?.len(), panel::drawing_length(4));
 /// # Ok::<(), panel::Refusal>(())
 /// ```

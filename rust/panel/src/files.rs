@@ -7,13 +7,18 @@ use crate::sizes::{LONGEST_DRAWING, LONGEST_ORDER};
 /// A function of the library that reads one file and writes another.
 type Convert = unsafe extern "C" fn(*const u8, usize, *mut u8, usize, *mut Words) -> u64;
 
-/// The drawing file of an order file.
+/// The drawing file of an order file. A line's last field there is 0 for a guide, 1 for a plain line
+/// and 2 for a feeder.
 ///
 /// ```
 /// let order = b"HD\0\x03PT\0\0PT\0\x01\0\x01PT\0\x02\0\x01\0\x02EN";
 /// let drawing = panel::draw(order)?;
 /// assert_eq!(drawing.len(), panel::drawing_length(3));
 /// assert_eq!(panel::undraw(&drawing)?, order);
+///
+/// // The line from 3 to 2 marked both guide and feeder, in the record at offset 14.
+/// let order = b"HD\0\x03PT\0\0PT\0\x01\0\x01PT\0\x02\0\x01\xC0\x02EN";
+/// assert_eq!(panel::draw(order), Err(panel::Refusal { number: 13, place: 14 }));
 /// # Ok::<(), panel::Refusal>(())
 /// ```
 pub fn draw(order: &[u8]) -> Result<Vec<u8>, Refusal> {

@@ -5,6 +5,8 @@
 //! byte of an output, and bytes past the written ones stay. Functions whose names begin with `calls`
 //! take a list of adding calls where the others take an order file.
 //!
+//! A line is a guide, plain or a feeder, as its entry says: a guide isn't cut, a feeder is cut twice.
+//!
 //! ```
 //! use panel::{draw, line, moves, point, undraw, Bend, Move, Place, Refusal, Tool};
 //!
@@ -21,7 +23,7 @@
 //!     0x50, 0x4F, 0, 0, 0, 0, // point 1 at (0,0)
 //!     0x50, 0x4F, 0, 6, 0, 0, // point 2 at (6,0)
 //!     0x50, 0x4F, 0, 3, 0, 2, // point 3 at (3,2)
-//!     0x4C, 0x4E, 0, 2, 0, 1, 0, 0, 0, 0, 0, 1, // line 2-1, cut
+//!     0x4C, 0x4E, 0, 2, 0, 1, 0, 0, 0, 0, 0, 1, // line 2-1, plain
 //!     0x4C, 0x4E, 0, 3, 0, 1, 0, 2, 0, 1, 0, 1, // line 3-1 bends at (2,1)
 //!     0x4C, 0x4E, 0, 3, 0, 2, 0, 4, 0, 1, 0, 1, // line 3-2 bends at (4,1)
 //!     0x45, 0x4E,
@@ -57,10 +59,10 @@ pub mod raw;
 mod refusal;
 mod sizes;
 
-pub use calls::{calls, calls_in_words, Called};
+pub use calls::{calls, calls_in_words, Called, FEEDER, GUIDE};
 pub use files::{draw, draw_into, undraw, undraw_into};
 pub use lookups::{
-    calls_cut_line, calls_line, calls_point, cut_line, line, point, Bend, Line, Place,
+    calls_cut_line, calls_line, calls_point, cut_line, line, point, Bend, Kind, Line, Place,
 };
 pub use moves::{calls_move_at, move_at, moves, Move, Moves, Tool};
 pub use refusal::Refusal;

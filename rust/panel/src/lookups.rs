@@ -27,6 +27,34 @@ pub enum Bend {
     Middle(usize),
 }
 
+/// What an entry says of the line to its point. Document 02: "guide, plain and feeder".
+#[derive(Clone, Copy, Debug, PartialEq, Eq, Hash)]
+pub enum Kind {
+    /// Not cut.
+    Guide,
+    /// Cut once.
+    Plain,
+    /// Cut twice, as a double groove.
+    Feeder,
+}
+
+impl Kind {
+    /// Whether a line of this kind is cut.
+    ///
+    /// ```
+    /// use panel::Kind;
+    ///
+    /// assert!(Kind::Plain.is_cut() && Kind::Feeder.is_cut());
+    /// assert!(!Kind::Guide.is_cut());
+    /// ```
+    pub fn is_cut(self) -> bool {
+        match self {
+            Kind::Guide => false,
+            Kind::Plain | Kind::Feeder => true,
+        }
+    }
+}
+
 /// A line from a later point to an earlier one.
 #[derive(Clone, Copy, Debug, PartialEq, Eq, Hash)]
 pub struct Line {
@@ -35,8 +63,8 @@ pub struct Line {
     pub bend: Bend,
     /// The place of the bend; for line 1-2 that of point 1.
     pub bend_place: Place,
-    /// Whether it is cut; else it is a guide.
-    pub cut: bool,
+    /// Guide, plain or feeder.
+    pub kind: Kind,
 }
 
 /// What a look-up returns, and the words that it puts into `seen`.
@@ -77,29 +105,36 @@ pub fn point(order: &[u8], point: usize) -> Result<Place, Refusal> {
 /// [`draw`](crate::draw) refuses, then 23 if there is no such line.
 ///
 /// ```
-/// use panel::{line, Bend, Place};
+/// use panel::{line, Bend, Kind, Place};
 ///
-/// let order = b"HD\0\x03PT\0\0PT\0\x01\0\x01PT\0\x02\0\x01\0\x02EN";
+/// // The line from 3 to 1 is a guide, and the line from 3 to 2 a feeder.
+/// let order = b"HD\0\x03PT\0\0PT\0\x01\0\x01PT\0\x02\x80\x01\x40\x02EN";
 /// let last = line(order, 2)?;
-/// assert_eq!((last.later, last.earlier, last.cut), (3, 2, true));
+/// assert_eq!((last.later, last.earlier, last.kind), (3, 2, Kind::Feeder));
 /// assert_eq!((last.bend, last.bend_place), (Bend::Left(1), Place { x: 4, y: 1 }));
+/// assert_eq!(line(order, 1)?.kind, Kind::Guide);
+/// assert_eq!(line(order, 0)?.kind, Kind::Plain);
 /// # Ok::<(), panel::Refusal>(())
 /// ```
 pub fn line(order: &[u8], number: usize) -> Result<Line, Refusal> {
     of_order(panel_line, order, number).map(line_seen)
 }
 
-/// The number of a cut line that ends at a point, from 1, of the drawing of an order file; which one
-/// is free, and none exactly if there is none. Refused are what [`draw`](crate::draw) refuses, then
-/// 23 if there is no such point.
+/// The number of a cut line, plain or feeder, that ends at a point, from 1, of the drawing of an
+/// order file; which one is free, and none exactly if there is none. Refused are what
+/// [`draw`](crate::draw) refuses, then 23 if there is no such point.
 ///
 /// ```
 /// use panel::cut_line;
 ///
-/// // The line from 2 to 1 is a guide, and so is the line from 3 to 2.
+/// // The line from 2 to 1 is a guide, and so is the line from 3 to 2; the one from 3 to 1 is plain.
 /// let order = b"HD\0\x03PT\0\0PT\0\x01\x80\x01PT\0\x02\0\x01\x80\x02EN";
 /// assert_eq!(cut_line(order, 1)?, Some(1));
 /// assert_eq!(cut_line(order, 2)?, None);
+///
+/// // The same with a feeder from 3 to 2.
+/// let order = b"HD\0\x03PT\0\0PT\0\x01\x80\x01PT\0\x02\0\x01\x40\x02EN";
+/// assert_eq!(cut_line(order, 2)?, Some(2));
 /// # Ok::<(), panel::Refusal>(())
 /// ```
 pub fn cut_line(order: &[u8], point: usize) -> Result<Option<usize>, Refusal> {
@@ -132,11 +167,13 @@ pub fn calls_point(
 /// [`line`](fn@line) of the drawing that a list of calls leaves, as in [`calls_point`].
 ///
 /// ```
-/// use panel::{calls_line, Bend};
+/// use panel::{calls_line, Bend, Kind, FEEDER};
 ///
+/// let calls = [3, 1, FEEDER | 3, 2]; // one call of three entries
 /// let mut answers = [0; 2];
-/// let line = calls_line(5, &[3, 1, 3, 2], &mut answers, 4)?;
+/// let line = calls_line(5, &calls, &mut answers, 4)?;
 /// assert_eq!((line.later, line.earlier, line.bend), (4, 3, Bend::Middle(1)));
+/// assert_eq!(line.kind, Kind::Feeder);
 /// # Ok::<(), panel::Refusal>(())
 /// ```
 pub fn calls_line(
@@ -151,9 +188,9 @@ pub fn calls_line(
 /// [`cut_line`] of the drawing that a list of calls leaves, as in [`calls_point`].
 ///
 /// ```
-/// use panel::calls_cut_line;
+/// use panel::{calls_cut_line, GUIDE};
 ///
-/// let calls = [2, 0x8001, 0x8003]; // one call of two entries, both guides
+/// let calls = [2, GUIDE | 1, GUIDE | 3]; // one call of two entries, both guides
 /// let mut answers = [0; 2];
 /// assert_eq!(calls_cut_line(5, &calls, &mut answers, 4)?, None);
 /// assert!(calls_cut_line(5, &calls, &mut answers, 3)?.is_some());
@@ -212,23 +249,28 @@ fn place_seen((_, [x, y]): Seen<2>) -> Place {
 }
 
 /// The line in `seen`.
-fn line_seen((_, [later, earlier, kind, port, x, y, cut]): Seen<7>) -> Line {
+fn line_seen((_, [later, earlier, bend, port, x, y, kind]): Seen<7>) -> Line {
     let port = port as usize;
     Line {
         later: later as usize,
         earlier: earlier as usize,
-        bend: match kind {
+        bend: match bend {
             0 => Bend::Straight,
             1 => Bend::Left(port),
             2 => Bend::Right(port),
             3 => Bend::Middle(port),
-            _ => unreachable!("the library has no bend of kind {kind}"),
+            _ => unreachable!("the library has no bend of kind {bend}"),
         },
         bend_place: Place {
             x: x as u16,
             y: y as u16,
         },
-        cut: cut != 0,
+        kind: match kind {
+            0 => Kind::Guide,
+            1 => Kind::Plain,
+            2 => Kind::Feeder,
+            _ => unreachable!("the library has no line of kind {kind}"),
+        },
     }
 }
 

@@ -37,8 +37,9 @@ fn given_move(call: impl FnOnce(&mut [f32; 2], &mut Words) -> u64) -> Result<Mov
     })
 }
 
-/// A move of the drawing of an order file, by number from 0. Refused are what [`draw`](crate::draw)
-/// refuses, then 12 for the tool, 23 if there is no such move.
+/// A move of the drawing of an order file, by number from 0. A plain line gives five moves, a feeder
+/// the same five twice in succession, a guide none. Refused are what [`draw`](crate::draw) refuses,
+/// then 12 for the tool, 23 if there is no such move.
 ///
 /// ```
 /// use panel::{move_at, Move, Tool};
@@ -112,6 +113,13 @@ pub fn calls_move_at(
 /// let tool = Tool { pitch: 8.0, depth: 4.0, clearance: 8.0 };
 /// let lifts = moves(order, tool)?.filter(|step| matches!(step, Move::Lift(_)));
 /// assert_eq!(lifts.count(), 3);
+///
+/// // The same with a guide from 2 to 1 and a feeder from 3 to 1, which is cut twice.
+/// let order = b"HD\0\x03PT\0\0PT\0\x01\x80\x01PT\0\x02\x40\x01\0\x02EN";
+/// let steps: Vec<Move> = moves(order, tool)?.collect();
+/// assert_eq!(steps.len(), 15);
+/// assert_eq!(steps[..5], steps[5..10]);
+/// assert_ne!(steps[5..10], steps[10..]);
 /// # Ok::<(), panel::Refusal>(())
 /// ```
 pub fn moves(order: &[u8], tool: Tool) -> Result<Moves<'_>, Refusal> {

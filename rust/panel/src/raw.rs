@@ -49,7 +49,8 @@ extern "C" {
     ) -> u64;
 
     /// A move of the drawing of an order file: 1 travel, 2 plunge, 3 cut, 4 lift, or 0 and a
-    /// refusal, which leaves `at`. Travel and cut put x and y there, plunge and lift z and 0.
+    /// refusal, which leaves `at`. Travel and cut put x and y there, plunge and lift z and 0. A plain
+    /// line gives five moves, a feeder the same five twice in succession.
     pub fn panel_move(
         order: *const u8,
         order_len: usize,
@@ -89,7 +90,8 @@ extern "C" {
 
     /// A line of an order file's drawing: 1, with later point, earlier point, kind of bend (0
     /// straight, 1 left port, 2 right port, 3 middle port), the port's index (0 for straight), bend
-    /// x, bend y, 1 for cut or 0 for guide in `seen`; or 0 and a refusal, which leaves `seen`.
+    /// x, bend y, the line's own kind (0 guide, 1 plain, 2 feeder) in `seen`; or 0 and a refusal,
+    /// which leaves `seen`.
     pub fn panel_line(
         order: *const u8,
         order_len: usize,
@@ -98,8 +100,8 @@ extern "C" {
         refusal: *mut Words,
     ) -> u64;
 
-    /// A cut line that ends at a point of an order file's drawing: 1, with the line's number in
-    /// `seen`; 2 if there is none, or 0 and a refusal, which both leave `seen`.
+    /// A cut line, plain or feeder, that ends at a point of an order file's drawing: 1, with the
+    /// line's number in `seen`; 2 if there is none, or 0 and a refusal, which both leave `seen`.
     pub fn panel_cut_line(
         order: *const u8,
         order_len: usize,

@@ -2,7 +2,7 @@
 
 use std::f64::consts::TAU;
 
-use panel::{Bend, Line, Place};
+use panel::{Bend, Kind, Line, Place};
 
 use crate::drawing::Drawing;
 
@@ -15,22 +15,26 @@ const TICK: f64 = 4.0;
 /// From a point to the middle of its number.
 const NUMBER: f64 = 11.0;
 
-/// `.near` is not seen: it makes a line wider for the pointer. A line under the pointer stands out
-/// with its tick.
+/// `.near` is not seen: it makes a line wider for the pointer. A feeder's two grooves are a wide
+/// stroke with `.between`, in the plate's colour, over it. A line under the pointer stands out with
+/// its tick.
 const STYLE: &str = "\
 .frame{fill:none;stroke:#bbbbbb;stroke-width:1}\
 .near{fill:none;stroke:transparent;stroke-width:8}\
-.cut{fill:none;stroke:#202020;stroke-width:1.2}\
+.plain{fill:none;stroke:#202020;stroke-width:1.2}\
+.feeder{fill:none;stroke:#202020;stroke-width:4.4;stroke-linejoin:round}\
+.between{fill:none;stroke:#ffffff;stroke-width:2;stroke-linejoin:round}\
 .guide{fill:none;stroke:#2070c0;stroke-width:1.2;stroke-dasharray:5 3}\
 .tick{stroke:#c03030;stroke-width:1.2}\
-.line:hover .cut,.line:hover .guide,.line:hover .tick{stroke:#e07000;stroke-width:4}\
+.line:hover .plain,.line:hover .guide,.line:hover .tick{stroke:#e07000;stroke-width:4}\
+.line:hover .feeder{stroke:#e07000;stroke-width:8}\
 .point{fill:#202020}\
 text{font-family:sans-serif}\
 .number{font-size:10px;text-anchor:middle;fill:#a00000;stroke:#ffffff;stroke-width:2.5px;paint-order:stroke}\
 .caption{font-size:14px;fill:#202020}";
 
-/// The picture of a drawing: the frame, cut lines solid, guides dashed, a tick at each bend, points
-/// as dots with their numbers. Every line and every point has a title.
+/// The picture of a drawing: the frame, plain lines solid, feeders double, guides dashed, a tick at
+/// each bend, points as dots with their numbers. Every line and every point has a title.
 pub fn svg(drawing: &Drawing) -> String {
     let canvas = Canvas { drawing };
     let (width, height) = canvas.size();
@@ -104,13 +108,18 @@ impl Canvas<'_> {
         let (x2, y2) = self.at(line.bend_place);
         let (x3, y3) = self.at(self.drawing.place(line.earlier));
         let points = format!("{x1},{y1} {x2},{y2} {x3},{y3}");
-        let kind = if line.cut { "cut" } else { "guide" };
+        let stroke = |class: &str| format!("<polyline class=\"{class}\" points=\"{points}\"/>");
+        let (kind, strokes) = match line.kind {
+            Kind::Guide => ("guide", stroke("guide")),
+            Kind::Plain => ("plain", stroke("plain")),
+            Kind::Feeder => ("feeder", stroke("feeder") + &stroke("between")),
+        };
+        let near = stroke("near");
         let Line { later, earlier, .. } = line;
         let tick = self.tick(line);
         format!(
             "<g class=\"line\"><title>line {number}: {later} to {earlier}, {kind}</title>\
-             <polyline class=\"near\" points=\"{points}\"/>\
-             <polyline class=\"{kind}\" points=\"{points}\"/>{tick}</g>\n"
+             {near}{strokes}{tick}</g>\n"
         )
     }
 

@@ -4,7 +4,7 @@ use std::io::Write;
 use std::process::{Command, Output, Stdio};
 
 use second::generate::{order, Order, Random, Style};
-use second::order_file;
+use second::{order_file, Kind};
 
 /// K4 of document 01, its lines 4 and 7 guides.
 fn k4() -> Order {
@@ -14,6 +14,14 @@ fn k4() -> Order {
         opening: [1, 1, 2],
         calls: vec![vec![1, 0x8003], vec![1, 4, 0x8003, 2]],
     }
+}
+
+/// The same with feeders for lines 2 and 6.
+fn k4_with_feeders() -> Order {
+    let mut order = k4();
+    order.opening[2] |= 0x4000;
+    order.calls[1][1] |= 0x4000;
+    order
 }
 
 /// The drawing file of an order.
@@ -59,8 +67,10 @@ fn everything_is_in_the_picture() {
     assert_eq!(count(&text, "<circle"), 5);
     assert_eq!(count(&text, "class=\"number\""), 5);
     assert_eq!(count(&text, "<g class=\"line\">"), 9);
-    assert_eq!(count(&text, "class=\"cut\""), 7);
+    assert_eq!(count(&text, "class=\"plain\""), 7);
     assert_eq!(count(&text, "class=\"guide\""), 2);
+    assert_eq!(count(&text, "class=\"feeder\""), 0);
+    assert_eq!(count(&text, "class=\"between\""), 0);
     assert_eq!(count(&text, "class=\"tick\""), 8);
     assert_eq!(count(&text, "class=\"frame\""), 1);
     assert_eq!(count(&text, "<title>"), 14);
@@ -72,15 +82,15 @@ fn everything_is_in_the_picture() {
 fn the_example_gives_its_picture() {
     let path = concat!(env!("CARGO_MANIFEST_DIR"), "/../../examples/k4.drawing");
     let text = picture(&std::fs::read(path).unwrap());
-    assert_eq!(count(&text, "class=\"cut\""), 9);
+    assert_eq!(count(&text, "class=\"plain\""), 9);
     assert!(text.contains("5 points, scale 1, width 12, height 5"));
     // Points (6,5) and (12,0); line 5-1 by (4,3), 5-2 by (9,2), 3-2 by (9,1), all from (48,168) up.
     for part in [
         "cx=\"192\" cy=\"48\"",
         "cx=\"336\" cy=\"168\"",
-        "class=\"cut\" points=\"192,48 144,96 48,168\"",
-        "class=\"cut\" points=\"192,48 264,120 336,168\"",
-        "class=\"cut\" points=\"216,120 264,144 336,168\"",
+        "class=\"plain\" points=\"192,48 144,96 48,168\"",
+        "class=\"plain\" points=\"192,48 264,120 336,168\"",
+        "class=\"plain\" points=\"216,120 264,144 336,168\"",
     ] {
         assert_eq!(count(&text, part), 1, "{part}");
     }
@@ -91,9 +101,9 @@ fn the_example_gives_its_picture() {
 fn titles_of_lines_and_points() {
     let text = picture(&drawing_file(&k4()));
     for title in [
-        "line 0: 2 to 1, cut",
+        "line 0: 2 to 1, plain",
         "line 4: 4 to 3, guide",
-        "line 6: 5 to 4, cut",
+        "line 6: 5 to 4, plain",
         "line 7: 5 to 3, guide",
         "point 1 at (0,0)",
         "point 4 at (5,3)",
@@ -116,10 +126,49 @@ fn a_line_under_the_pointer_stands_out() {
          <line class=\"tick\" "
     );
     assert_eq!(count(&text, &group), 1);
-    for part in [".cut", ".guide", ".tick"] {
+    for part in [".plain", ".guide", ".feeder", ".tick"] {
         assert!(text.contains(&format!(".line:hover {part}")));
     }
     assert!(text.contains(".near{fill:none;stroke:transparent;"));
+}
+
+// A feeder is a double groove: a wide stroke, and over it, along the same way, a narrower one in the
+// colour of the plate. Nothing else in the picture changes.
+#[test]
+fn a_feeder_is_a_double_groove() {
+    let text = picture(&drawing_file(&k4_with_feeders()));
+    assert_eq!(count(&text, "class=\"feeder\""), 2);
+    assert_eq!(count(&text, "class=\"between\""), 2);
+    assert_eq!(count(&text, "class=\"plain\""), 5);
+    assert_eq!(count(&text, "class=\"guide\""), 2);
+    let plate = "width=\"384\" height=\"216\" fill=\"#ffffff\"";
+    let wide = ".feeder{fill:none;stroke:#202020;stroke-width:4.4;";
+    let narrow = ".between{fill:none;stroke:#ffffff;stroke-width:2;";
+    for part in [plate, wide, narrow] {
+        assert_eq!(count(&text, part), 1, "{part}");
+    }
+
+    let mut changed = picture(&drawing_file(&k4()));
+    for (title, points) in [
+        ("line 2: 3 to 2", "216,120 264,144 336,168"),
+        ("line 6: 5 to 4", "192,48 168,96 168,96"),
+    ] {
+        let near = format!("<polyline class=\"near\" points=\"{points}\"/>");
+        let line = |kind: &str, strokes: &[&str]| {
+            let strokes = strokes.iter();
+            let strokes: String = strokes
+                .map(|class| format!("<polyline class=\"{class}\" points=\"{points}\"/>"))
+                .collect();
+            format!("<title>{title}, {kind}</title>{near}{strokes}<line class=\"tick\"")
+        };
+        let (plain, feeder) = (
+            line("plain", &["plain"]),
+            line("feeder", &["feeder", "between"]),
+        );
+        assert_eq!(count(&changed, &plain), 1, "{plain}");
+        changed = changed.replace(&plain, &feeder);
+    }
+    assert_eq!(text, changed);
 }
 
 // Only the caption tells the scale: places are shown in grid units.
@@ -142,7 +191,11 @@ fn a_drawing_of_1024_points() {
     let drawing = order_file::read(&order.bytes()).unwrap();
     let mut titles = text.split("<title>").skip(1);
     for (number, line) in drawing.lines.iter().enumerate() {
-        let kind = if line.cut { "cut" } else { "guide" };
+        let kind = match line.kind {
+            Kind::Guide => "guide",
+            Kind::Plain => "plain",
+            Kind::Feeder => "feeder",
+        };
         let (later, earlier) = (line.later, line.earlier);
         let title = format!("line {number}: {later} to {earlier}, {kind}</title>");
         assert!(titles.next().unwrap().starts_with(&title), "{title}");

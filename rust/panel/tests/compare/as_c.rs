@@ -70,7 +70,7 @@ fn leaves<const WORDS: usize>(
 fn what_stands_in_seen() {
     let mut tally = Tally::new("as C, `seen` after look-ups of an order file");
     for style in STYLES {
-        let mut random = Random::new(120_000);
+        let mut random = Random::new(120_006);
         let bytes = order(9, style, &mut random).bytes();
         let from = bytes.as_ptr();
         for length in [10, bytes.len() - 1, bytes.len()] {
@@ -158,7 +158,7 @@ fn what_stands_in_at_after_calls() {
         let pitch = random.below(4) as f32;
         let (tool, number) = (
             with(random_tool(&mut random), 0, pitch),
-            random.below(16 * n),
+            random.below(32 * n),
         );
         let second = second_drawing(n, &list, &mut answers.clone())
             .and_then(|drawing| second_move(&drawing, tool, number));

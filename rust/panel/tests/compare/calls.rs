@@ -68,7 +68,7 @@ fn second_file(drawing: &Drawing, out: &mut [u8]) -> Result<usize, Refusal> {
 }
 
 /// Both sides answer alike, and leave both buffers alike.
-fn agree(n: usize, words: &[u16], answer_words: usize, room: usize) -> Kept {
+pub fn agree(n: usize, words: &[u16], answer_words: usize, room: usize) -> Kept {
     let pattern: Vec<u8> = (0..room).map(|at| at as u8 ^ 0x5A).collect();
     let (mut answers, mut out) = (blank(answer_words), pattern.clone());
     let proved = panel::calls_in_words(n, words, &mut answers, &mut out);
@@ -191,7 +191,7 @@ fn random_words() {
         let words: Vec<u16> = (0..length)
             .map(|_| match random.below(16) {
                 0 => random.number() as u16,
-                1 => 0x8000 | random.below(8) as u16,
+                1 => (random.below(4) << 14 | random.below(8)) as u16,
                 _ => random.below(6) as u16,
             })
             .collect();
@@ -206,7 +206,7 @@ fn random_words() {
 fn large_calls_and_long_lists() {
     let mut tally = Tally::new("calls, up to 65,535 entries or calls");
     for count in [1023, 1024, 1025, 32_768, 65_535] {
-        for entry in [0, 1, 3, 4, 0x8001] {
+        for entry in [0, 1, 3, 4, 0x8001, 0x4001, 0xC001, 0xC000] {
             let mut large: Vec<u16> = [1, 3, 2].into_iter().cycle().take(count).collect();
             large[count - 1] = entry;
             let list = [vec![1, 3], large, vec![1, 4, 3, 2]];

@@ -23,7 +23,7 @@ fn moves_of_random_lists() {
             let value = corners[random.below(corners.len())];
             tool = with(tool, random.below(3), value);
         }
-        let number = random.below(16 * n);
+        let number = random.below(32 * n);
         list_keeps(&list, |list| {
             let words = words_of(list);
             let length = (2 * list.len()).saturating_sub(short);

@@ -44,16 +44,18 @@ fn number(bytes: &[u8], at: usize) -> u16 {
 }
 
 /// The file with another number at an offset.
-fn with_number(bytes: &[u8], at: usize, number: u16) -> Vec<u8> {
+pub fn with_number(bytes: &[u8], at: usize, number: u16) -> Vec<u8> {
     let mut changed = bytes.to_vec();
     changed[at..at + 2].copy_from_slice(&number.to_be_bytes());
     changed
 }
 
 /// Numbers that a field of a file of n points may be wrong by, around the field's own.
-fn other_numbers(own: u16, n: u16) -> [u16; 16] {
+fn other_numbers(own: u16, n: u16) -> [u16; 25] {
     let (less, more) = (own.wrapping_sub(1), own.wrapping_add(1));
     let guide = own ^ 0x8000;
+    let feeder = own ^ 0x4000;
+    let both = own | 0xC000;
     [
         0,
         1,
@@ -65,11 +67,20 @@ fn other_numbers(own: u16, n: u16) -> [u16; 16] {
         less,
         more,
         guide,
+        feeder,
+        both,
         n,
         n + 1,
+        0x00FF,
+        0x0100,
+        0x0102,
         1025,
+        0x3FFF,
+        0x4000,
         0x7FFF,
         0x8000,
+        0xBFFF,
+        0xC000,
         0xFFFF,
     ]
 }
@@ -143,10 +154,12 @@ fn records_swapped_left_out_repeated() {
     tally.say();
 }
 
-/// So many entries: the boundary 1, 3, 2 over and over, with one other entry.
-fn many_entries(count: usize, at: usize, entry: u16) -> Vec<u8> {
+/// So many entries: the boundary 1, 3, 2 over and over, with some other entries.
+fn many_entries(count: usize, others: &[(usize, u16)]) -> Vec<u8> {
     let mut entries: Vec<u16> = [1, 3, 2].into_iter().cycle().take(count).collect();
-    entries[at] = entry;
+    for &(at, entry) in others {
+        entries[at] = entry;
+    }
     entries.into_iter().flat_map(u16::to_be_bytes).collect()
 }
 
@@ -158,16 +171,23 @@ fn records_of_many_entries() {
     let records = records(&bytes);
     let points = records.len() - 6..records.len() - 1;
     for count in [4, 1023, 1024, 1025, 1026, 32_767, 32_768, 65_535] {
-        for (at, entry) in [
-            (0, 1),
-            (count - 1, 0),
-            (count / 2, 9),
-            (3, 2),
-            (count - 1, 0x8003),
+        for others in [
+            &[(0, 1)][..],
+            &[(count - 1, 0)],
+            &[(count / 2, 9)],
+            &[(3, 2)],
+            &[(count - 1, 0x8003)],
+            &[(count - 1, 0x4003)],
+            &[(0, 0xC001)],
+            &[(3, 0xC001)],
+            &[(count - 1, 0xC003)],
+            &[(count - 1, 0xFFFF)],
+            &[(count / 2, 9), (count - 1, 0xC001)],
+            &[(count / 2, 0xC000), (count - 1, 9)],
         ] {
             for point in points.clone() {
                 let head = (0x5054_0000 + count as u32).to_be_bytes();
-                let large = [&head[..], &many_entries(count, at, entry)].concat();
+                let large = [&head[..], &many_entries(count, others)].concat();
                 let mut changed = records.clone();
                 changed[point] = &large;
                 let changed = changed.concat();

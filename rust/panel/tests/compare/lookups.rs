@@ -1,6 +1,6 @@
 //! Look-ups of an order file's drawing.
 
-use panel::{Bend, Line, Place, Refusal};
+use panel::{Bend, Kind, Line, Place, Refusal, FEEDER, GUIDE};
 use second::generate::{all_orders, order, Order, Random, Style, STYLES};
 use second::{order_file, Drawing};
 
@@ -43,7 +43,11 @@ fn second_line(drawing: &Drawing, number: usize) -> Result<Line, Refusal> {
             second::Bend::Middle(i) => Bend::Middle(i.into()),
         },
         bend_place: place(line.bend_place),
-        cut: line.cut,
+        kind: match line.kind {
+            second::Kind::Guide => Kind::Guide,
+            second::Kind::Plain => Kind::Plain,
+            second::Kind::Feeder => Kind::Feeder,
+        },
     })
 }
 
@@ -57,7 +61,7 @@ fn second_cut_line(
     let first = drawing.cut_line_at(point_number(point)).map_err(refusal)?;
     let is_one = |&number: &usize| {
         second_line(drawing, number)
-            .is_ok_and(|line| line.cut && [line.later, line.earlier].contains(&point))
+            .is_ok_and(|line| line.kind.is_cut() && [line.later, line.earlier].contains(&point))
     };
     Ok(first.map(|first| proved.ok().flatten().filter(is_one).unwrap_or(first)))
 }
@@ -120,7 +124,7 @@ fn every_order_of_up_to_7_points() {
     tally.say();
 }
 
-// Every point and line of random drawings, with guides and scales.
+// Every point and line of random drawings, with guides, feeders and scales.
 #[test]
 fn all_look_ups_of_up_to_60_points() {
     let mut tally = Tally::new("look-ups, all of random drawings of up to 60 points");
@@ -140,15 +144,38 @@ fn all_look_ups_of_up_to_60_points() {
 fn guides_only() {
     let mut tally = Tally::new("look-ups, drawings of guides only");
     for style in STYLES {
-        let mut order = order(30, style, &mut Random::new(101_000));
-        let entries = order.opening.iter_mut();
-        for entry in entries.chain(order.calls.iter_mut().flatten()) {
-            *entry |= 0x8000;
-        }
+        let mut order = order(30, style, &mut Random::new(101_000)).plain();
+        order.entries_mut().for_each(|entry| *entry |= GUIDE);
         order_keeps(&order, all_look_ups);
         for point in 1..=30 {
             assert_eq!(panel::cut_line(&order.bytes(), point), Ok(None));
             tally.count();
+        }
+    }
+    tally.say();
+}
+
+// Guides and one feeder: its two ends have it as their cut line, and no other point has one.
+#[test]
+fn one_feeder_among_guides() {
+    let mut tally = Tally::new("look-ups, drawings of guides and one feeder");
+    for style in STYLES {
+        let plain = order(12, style, &mut Random::new(104_000)).plain();
+        for feeder in 0..panel::line_count(12) {
+            let mut order = plain.clone();
+            for (line, entry) in order.entries_mut().enumerate() {
+                *entry |= if line == feeder { FEEDER } else { GUIDE };
+            }
+            order_keeps(&order, all_look_ups);
+            let bytes = order.bytes();
+            let line = panel::line(&bytes, feeder).unwrap();
+            assert_eq!(line.kind, Kind::Feeder);
+            for point in 1..=12 {
+                let ends_here = [line.later, line.earlier].contains(&point);
+                let expected = ends_here.then_some(feeder);
+                assert_eq!(panel::cut_line(&bytes, point), Ok(expected));
+                tally.count();
+            }
         }
     }
     tally.say();
@@ -176,9 +203,9 @@ fn look_ups_of_1024_points() {
 #[test]
 fn refused_files() {
     let mut tally = Tally::new("look-ups, refused files");
-    let bytes = order(6, Style::Mixed, &mut Random::new(103_000)).bytes();
+    let bytes = order(6, Style::Mixed, &mut Random::new(103_031)).bytes();
     for at in 0..bytes.len() {
-        for change in [1, 0x80, 0xFF] {
+        for change in [1, 0x40, 0x80, 0xC0, 0xFF] {
             let mut wrong = bytes.clone();
             wrong[at] ^= change;
             let drawing = order_file::read(&wrong).map_err(refusal);

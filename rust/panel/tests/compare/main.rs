@@ -10,6 +10,7 @@ mod calls;
 mod calls_lookups;
 mod calls_move;
 mod damage;
+mod feeders;
 mod lookups;
 mod moves;
 mod orders;

@@ -1,7 +1,7 @@
 //! Cutter moves, bit for bit.
 
 use panel::raw::panel_move;
-use panel::{Move, Refusal, Tool};
+use panel::{Move, Refusal, Tool, FEEDER, GUIDE};
 use second::generate::{order, Order, Random, Style, STYLES};
 use second::{moves, order_file, Drawing};
 
@@ -159,6 +159,51 @@ fn all_moves_of_1024_points() {
     tally.say();
 }
 
+/// The moves that the proved library gives for an order.
+fn all_moves(order: &Order, tool: Tool) -> Vec<Bits> {
+    let bytes = order.bytes();
+    let moves = panel::moves(&bytes, tool).expect("an accepted order and a tool in range");
+    moves.map(bits).collect()
+}
+
+// "A feeder gives its five moves twice in succession": the whole list with feeders is the list of the
+// same lines all plain, each line's five moves as often as it is cut.
+#[test]
+fn feeders_give_their_moves_twice() {
+    let mut tally = Tally::new("moves, all of drawings with feeders");
+    for round in 0..rounds(60) {
+        let mut random = Random::new(86_000 + round);
+        for style in STYLES {
+            let n = random.between(3, 40) as u16;
+            let marked = order(n, style, &mut random);
+            let tool = random_tool(&mut random);
+            let mut plain = marked.plain();
+            plain.s = marked.s;
+            let once = all_moves(&plain, tool);
+            let all_with = |mark: u16| {
+                let mut order = plain.clone();
+                order.entries_mut().for_each(|entry| *entry |= mark);
+                order
+            };
+            for order in [marked, all_with(FEEDER), all_with(GUIDE)] {
+                let mut expected = Vec::new();
+                for (five, &entry) in once.chunks(5).zip(order.entries()) {
+                    let times = match entry & (GUIDE | FEEDER) {
+                        0 => 1,
+                        FEEDER => 2,
+                        _ => 0,
+                    };
+                    expected.extend(five.repeat(times));
+                }
+                assert_eq!(all_moves(&order, tool), expected, "{order:?}");
+                order_keeps(&order, |order| same_moves(order, tool));
+                tally.count();
+            }
+        }
+    }
+    tally.say();
+}
+
 // Every pitch, and some moves of the widest drawings at the largest scale.
 #[test]
 fn every_pitch() {
@@ -166,13 +211,17 @@ fn every_pitch() {
     for style in STYLES {
         let mut order = order(1024, style, &mut Random::new(82_000)).plain();
         order.s = 8;
+        order
+            .entries_mut()
+            .step_by(2)
+            .for_each(|entry| *entry |= FEEDER);
         let bytes = order.bytes();
         let drawing = order_file::read(&bytes).unwrap();
         let mut random = Random::new(82_000);
         for pitch in 1..=80u8 {
             let tool = with(random_tool(&mut random), 0, pitch.into());
             for _ in 0..rounds(10) {
-                let number = random.below(15_400);
+                let number = random.below(23_100);
                 keeps(same_move(&bytes, &drawing, tool, number));
                 tally.count();
             }
@@ -207,10 +256,10 @@ fn tools_from_all_corners() {
 #[test]
 fn refusals_in_order() {
     let mut tally = Tally::new("moves, refusals in their order");
-    let mut random = Random::new(84_000);
+    let mut random = Random::new(84_020);
     let bytes = order(6, Style::Mixed, &mut random).bytes();
     for at in 0..bytes.len() {
-        for change in [1, 0x80, 0xFF] {
+        for change in [1, 0x40, 0x80, 0xC0, 0xFF] {
             let mut wrong = bytes.clone();
             wrong[at] ^= change;
             for pitch in [8.0, 0.0] {
@@ -242,7 +291,7 @@ fn what_stands_in_at() {
     for style in STYLES {
         let bytes = order(9, style, &mut random).bytes();
         let drawing = order_file::read(&bytes).unwrap();
-        for number in 0..110 {
+        for number in 0..215 {
             let pitch = if number % 7 == 6 { 0.5 } else { 3.0 };
             let tool = with(random_tool(&mut random), 0, pitch);
             let (mut at, mut refusal) = (before, [u64::MAX; 3]);

@@ -1,5 +1,6 @@
 //! Orders drawn and read back.
 
+use panel::{FEEDER, GUIDE};
 use second::generate::{all_orders, order, Order, Random, STYLES};
 
 use crate::both::{compare, Way};
@@ -35,7 +36,7 @@ pub fn drawn(order: &Order) -> (Vec<u8>, Vec<u8>) {
     (bytes, drawing)
 }
 
-// Every choice of runs, all lines cut.
+// Every choice of runs, all lines plain.
 #[test]
 fn every_order_of_up_to_10_points() {
     let mut tally = Tally::new("orders, every order of up to 10 points");
@@ -65,12 +66,33 @@ fn every_guide_and_scale_of_up_to_5_points() {
 fn with_guides(order: &Order, guides: u32, s: u16) -> Order {
     let mut order = order.clone();
     order.s = s;
-    let entries = order
-        .opening
-        .iter_mut()
-        .chain(order.calls.iter_mut().flatten());
-    for (line, entry) in entries.enumerate() {
+    for (line, entry) in order.entries_mut().enumerate() {
         *entry |= ((guides >> line & 1) as u16) << 15;
+    }
+    order
+}
+
+// Every choice of runs and kinds, the scales in turn.
+#[test]
+fn every_kind_of_up_to_5_points() {
+    let mut tally = Tally::new("orders, every kind of up to 5 points");
+    let scales = &mut (1..=8).cycle();
+    for order in (3..=5).flat_map(all_orders) {
+        for (kinds, s) in (0..3u32.pow(3 * u32::from(order.n) - 6)).zip(scales.by_ref()) {
+            order_keeps(&with_kinds(&order, kinds, s), comes_back);
+            tally.count();
+        }
+    }
+    tally.say();
+}
+
+/// The order with a scale, and the kind of each line by a digit of base 3.
+fn with_kinds(order: &Order, mut kinds: u32, s: u16) -> Order {
+    let mut order = order.clone();
+    order.s = s;
+    for entry in order.entries_mut() {
+        *entry |= [0, GUIDE, FEEDER][kinds as usize % 3];
+        kinds /= 3;
     }
     order
 }

@@ -44,7 +44,7 @@ fn smallest_list<T: Clone>(items: &[T], fails: impl Fn(&[T]) -> bool) -> Vec<T> 
     small
 }
 
-/// Fails with the smallest order that doesn't keep the law: points dropped from the end, then guides
+/// Fails with the smallest order that doesn't keep the law: points dropped from the end, then marks
 /// and scale.
 pub fn order_keeps(order: &Order, law: impl Fn(&Order) -> Kept) {
     if law(order).is_ok() {
