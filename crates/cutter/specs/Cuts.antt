@@ -22,11 +22,6 @@ cuts Guide = 0
 cuts Plain = 1
 cuts Feeder = 2
 
-pub cuts-most : (k : Kind) → cuts k ≤ 2
-cuts-most Guide = omega arith
-cuts-most Plain = omega arith
-cuts-most Feeder = omega arith
-
 -- the sum of f over the numbers below e
 unfoldable pub sumTo : (ℕ → ℕ) → ℕ → ℕ
 sumTo f zero = 0
