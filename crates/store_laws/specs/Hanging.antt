@@ -24,7 +24,8 @@ use Rattle.promise.specs.Moved.{amount1, amount2}
 use Rattle.promise.specs.Columns.{newOwners, k-next, owners-next, index-is}
 use Rattle.promise.specs.Places as Places
 use Rattle.store_laws.specs.Puts.{gaps-in}
-use Rattle.store_laws.specs.Points.{Call, after, Inner, size, entry-w, w-low, w-differ, inner-in, inner-entry, taking}
+use Rattle.store_laws.specs.Reading.{entry-is}
+use Rattle.store_laws.specs.Points.{Call, after, Inner, size, w-low, w-differ, inner-in, inner-entry, taking}
 use Rattle.store_laws.specs.Links.{gapsOver, gap-over, gap-other, x-inner, x-new}
 
 module _ {d : Drawing} {a : Arrays} {c : Counts} {es : List ℕ} {l r : ℕ} {p : Spot} {from : ℕ} (h : Call d a c es l r p from) where
@@ -35,7 +36,7 @@ module _ {d : Drawing} {a : Arrays} {c : Counts} {es : List ℕ} {l r : ℕ} {p 
   way-x zero b = let e : l + 0 ≡ l = omega arith in ap (λ (n : ℕ). xOf d (w d n)) e ∙ omega arith
   way-x (suc i) b =
       let e : l + suc i ≡ suc (l + i) = omega arith in
-      let t : entryPoint es (suc i) ≡ w d (suc (l + i)) = entry-w h (suc i) b ∙ ap (w d) e in
+      let t : entryPoint es (suc i) ≡ w d (suc (l + i)) = entry-is es (h .run) (suc i) b ∙ ap (w d) e in
       rw (e, t) (omega (arith, way-x i (omega arith), h .stores .step (l + i) (omega (arith, h .run .rm))))
 
   -- The new point is not far to the right.
@@ -56,7 +57,7 @@ module _ {d : Drawing} {a : Arrays} {c : Counts} {es : List ℕ} {l r : ℕ} {p 
   -- A covered entry has the gap to the new point.
   gap-inner : (q : ℕ) (t : Inner es l r (suc q)) → q < d .k → atPoint (withPoint a c es p from .gap) (suc q) ≡ way (a .gap) es (t .j) + p .s1 + gapOffset - p .dx
   gap-inner q t b =
-      let at : suc q ≡ w d (l + t .j) = t .entry ∙ entry-w h (t .j) (omega (arith, t .high)) in
+      let at : suc q ≡ w d (l + t .j) = t .entry ∙ entry-is es (h .run) (t .j) (omega (arith, t .high)) in
       let n : w d (l + t .j) ≢ w d r = w-differ h (l + t .j) r (omega (arith, t .high, h .run .rm)) (h .run .rm) (omega (arith, t .high)) in
       gap-over h (suc q) (omega arith) (λ e. n (sym at ∙ e)) (omega arith) ∙
       ap (atPoint (gapsOver a es p)) (t .entry) ∙
@@ -65,7 +66,7 @@ module _ {d : Drawing} {a : Arrays} {c : Counts} {es : List ℕ} {l r : ℕ} {p 
   -- It hangs on the new point.
   hang-new : (q : ℕ) (t : Inner es l r (suc q)) → q < d .k → xOf (after d es l r) (suc q) + gapOffset ≡ xOf (after d es l r) (suc (d .k)) + atPoint (withPoint a c es p from .gap) (suc q)
   hang-new q t b =
-      let at : suc q ≡ w d (l + t .j) = t .entry ∙ entry-w h (t .j) (omega (arith, t .high)) in
+      let at : suc q ≡ w d (l + t .j) = t .entry ∙ entry-is es (h .run) (t .j) (omega (arith, t .high)) in
       omega (
         arith,
         ap (xOf (after d es l r)) at,
@@ -100,7 +101,7 @@ module _ {d : Drawing} {a : Arrays} {c : Counts} {es : List ℕ} {l r : ℕ} {p 
     gap-old : atPoint (withPoint a c es p from .gap) (suc q) ≡ atPoint (a .gap) (suc q)
     gap-old =
         gap-other h (suc q) (omega arith) (off-boundary r (h .run .rm)) (omega arith)
-        (λ j z jb t. let s : l + j < r = omega (arith, size h, h .run .lr) in off-boundary (l + j) (omega (arith, h .run .rm)) (t ∙ entry-w h j (omega arith)))
+        (λ j z jb t. let s : l + j < r = omega (arith, size h, h .run .lr) in off-boundary (l + j) (omega (arith, h .run .rm)) (t ∙ entry-is es (h .run) j (omega arith)))
 
     -- It moved with its owner, so it hangs as before.
     hang-old : xOf (after d es l r) (suc q) + gapOffset ≡ xOf (after d es l r) (suc o) + atPoint (withPoint a c es p from .gap) (suc q)

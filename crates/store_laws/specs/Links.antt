@@ -18,7 +18,8 @@ use Rattle.promise.specs.Border.{Stands, old, put, stands-next}
 use Rattle.promise.specs.Moved.{amount1, amount2}
 use Rattle.promise.specs.Places as Places
 use Rattle.store_laws.specs.Puts.{put-same, put-other, length-put, length-gaps, gaps-out}
-use Rattle.store_laws.specs.Points.{Call, after, size, entry-w, first-w, last-w, lm, w-low, w-differ, inner-in}
+use Rattle.store_laws.specs.Reading.{entry-is}
+use Rattle.store_laws.specs.Points.{Call, after, size, first-w, last-w, lm, w-low, w-differ, inner-in}
 
 -- p and q are neighbours on the boundary after the call: both left of the run, wl and the new point, the new point and wr, or both right of the run
 data Neighbours (d : Drawing) (l r p q : ℕ) : Type 0 where
@@ -142,7 +143,7 @@ module _ {d : Drawing} {a : Arrays} {c : Counts} {es : List ℕ} {l r : ℕ} {p 
   gap-kept : (j : ℕ) → j < m d → j ≢ r → Outside l r j → atPoint (withPoint a c es p from .gap) (w d j) ≡ atPoint (a .gap) (w d j)
   gap-kept j jm n o =
       gap-other (w d j) (w-low h j jm .0) (w-differ h j r jm (h .run .rm) n) (omega (arith, w-low h j jm))
-      (λ i z b e. let s : l + i < r = omega (arith, size h, h .run .lr) in w-differ h j (l + i) jm (omega (arith, h .run .rm)) (away i z s o) (e ∙ entry-w h i (omega arith)))
+      (λ i z b e. let s : l + i < r = omega (arith, size h, h .run .lr) in w-differ h j (l + i) jm (omega (arith, h .run .rm)) (away i z s o) (e ∙ entry-is es (h .run) i (omega arith)))
     where
       away : (i : ℕ) → 0 < i → l + i < r → Outside l r j → j ≢ l + i
       away i z s (before b) = omega arith

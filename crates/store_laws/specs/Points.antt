@@ -98,19 +98,15 @@ module _ {d : Drawing} {a : Arrays} {c : Counts} {es : List ℕ} {l r : ℕ} {p 
   pub size : l + length es ≡ suc r
   size = run-size es (h .run)
 
-  -- Entry i names boundary point l + i.
-  pub entry-w : (i : ℕ) → l + i ≤ r → entryPoint es i ≡ w d (l + i)
-  entry-w i ir = entry-is es (h .run) i ir
-
   -- The first entry names wl.
   pub first-w : entryPoint es 0 ≡ w d l
-  first-w = let e : l + 0 ≡ l = omega arith in entry-w 0 (omega (arith, h .run .lr)) ∙ ap (w d) e
+  first-w = let e : l + 0 ≡ l = omega arith in entry-is es (h .run) 0 (omega (arith, h .run .lr)) ∙ ap (w d) e
 
   -- The last one names wr.
   pub last-w : entryPoint es (length es - 1) ≡ w d r
   last-w =
       let e : l + (length es - 1) ≡ r = omega (arith, size, h .run .lr) in
-      entry-w (length es - 1) (omega arith) ∙ ap (w d) e
+      entry-is es (h .run) (length es - 1) (omega arith) ∙ ap (w d) e
 
   -- wl stands on the boundary.
   pub lm : l < m d
@@ -169,7 +165,7 @@ module _ {d : Drawing} {a : Arrays} {c : Counts} {es : List ℕ} {l r : ℕ} {p 
   entry-inside j z b =
       let jr : l + j < r = omega (arith, size, h .run .lr) in
       let e : indexOf (entryPoint es j) (d .boundary) ≡ l + j =
-      ap (λ (q : ℕ). indexOf q (d .boundary)) (entry-w j (omega arith)) ∙ index-is (h .sound) (l + j) (omega (arith, h .run .rm))
+      ap (λ (q : ℕ). indexOf q (d .boundary)) (entry-is es (h .run) j (omega arith)) ∙ index-is (h .sound) (l + j) (omega (arith, h .run .rm))
       in
       true-inside l r (d .boundary) (entryPoint es j) (omega arith) (omega arith)
 
@@ -180,7 +176,7 @@ module _ {d : Drawing} {a : Arrays} {c : Counts} {es : List ℕ} {l r : ℕ} {p 
       let j : ℕ = indexOf (suc q) (d .boundary) - l in
       let s : l + j ≡ indexOf (suc q) (d .boundary) = omega arith in
       let t : suc q ≡ w d (l + j) = sym (index-at (suc q) (d .boundary) (omega (arith, h .run .rm))) ∙ ap (w d) (sym s) in
-      record { j = j; low = omega arith; high = omega arith; last = omega (arith, size); entry = t ∙ sym (entry-w j (omega arith)) }
+      record { j = j; low = omega arith; high = omega arith; last = omega (arith, size); entry = t ∙ sym (entry-is es (h .run) j (omega arith)) }
 
   -- A point that is not inside the run is that of no inner entry.
   pub not-entry : (q : ℕ) → inside l r (d .boundary) q ≡ false → (j : ℕ) → 0 < j → j ≤ innerCount es → q ≢ entryPoint es j

@@ -241,6 +241,16 @@ fn reaches(port: Place, point: Place) -> bool {
 mod tests {
     use crate::{open, Drawing, Kind, Refusal};
 
+    /// Calls, each with the number and place of its refusal, which changes nothing.
+    fn refuses(drawing: &mut Drawing, cases: &[(&[u16], u16, usize)]) {
+        let before = drawing.clone();
+        for &(entries, number, place) in cases {
+            let answer = drawing.add(entries);
+            assert_eq!(answer, Err(Refusal::new(number, place)), "{entries:x?}");
+            assert_eq!(*drawing, before);
+        }
+    }
+
     // "Order in adding: 21, 5, then entry by entry 6 before 7, then 8, 9, 25", with places.
     #[test]
     fn refusals_in_order_and_nothing_changes() {
@@ -263,23 +273,17 @@ mod tests {
             (&[1, 4, 1], 8, 2),
             (&[1, 4, 2, 2], 8, 3),
         ];
-        for (entries, number, place) in cases {
-            let before = drawing.clone();
-            assert_eq!(drawing.add(entries), Err(Refusal::new(number, place)));
-            assert_eq!(drawing, before);
-        }
+        refuses(&mut drawing, &cases);
         drawing.add(&[1, 4]).unwrap();
-        for (entries, number) in [(&[1, 5][..], 9), (&[5, 4, 2], 9), (&[1, 5, 4], 9)] {
-            let before = drawing.clone();
-            assert_eq!(drawing.add(entries), Err(Refusal::new(number, 0)));
-            assert_eq!(drawing, before);
-        }
+        refuses(
+            &mut drawing,
+            &[(&[1, 5], 9, 0), (&[5, 4, 2], 9, 0), (&[1, 5, 4], 9, 0)],
+        );
         drawing.add(&[1, 5, 4, 2]).unwrap();
-        for entries in [&[][..], &[0], &[1, 6, 2]] {
-            let before = drawing.clone();
-            assert_eq!(drawing.add(entries), Err(Refusal::new(21, 0)));
-            assert_eq!(drawing, before);
-        }
+        refuses(
+            &mut drawing,
+            &[(&[], 21, 0), (&[0], 21, 0), (&[1, 6, 2], 21, 0)],
+        );
     }
 
     // "13, an entry marked both guide and feeder, placed as 6 is, tested for each entry before 6".
@@ -306,16 +310,11 @@ mod tests {
             (&[1, 0x7FFF], 6, 1),
             (&[1, 0x4003, 0xC002], 7, 1),
         ];
-        for (entries, number, place) in cases {
-            let before = drawing.clone();
-            let answer = drawing.add(entries);
-            assert_eq!(answer, Err(Refusal::new(number, place)), "{entries:x?}");
-            assert_eq!(drawing, before);
-        }
+        refuses(&mut drawing, &cases);
         drawing.add(&[0x4001, 4]).unwrap();
-        assert_eq!(drawing.add(&[1, 0xC005]), Err(Refusal::new(13, 1)));
+        refuses(&mut drawing, &[(&[1, 0xC005], 13, 1)]);
         drawing.add(&[1, 0x8005, 0x4004, 2]).unwrap();
-        assert_eq!(drawing.add(&[0xC001, 0xC000]), Err(Refusal::new(21, 0)));
+        refuses(&mut drawing, &[(&[0xC001, 0xC000], 21, 0)]);
     }
 
     /// A drawing of five points by two calls, marked or not.

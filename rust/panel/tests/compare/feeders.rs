@@ -160,33 +160,29 @@ fn last_fields_of_lines() {
     tally.say();
 }
 
-// Every 16-bit number as the last field of a plain line, a guide and a feeder.
-#[test]
-fn every_last_field() {
-    let mut tally = Tally::new("feeders, every last field");
+/// Every 16-bit number at an offset of some line records of a drawing file.
+fn every_number_in_lines(what: &'static str, numbers: &[usize], offset: usize) {
+    let mut tally = Tally::new(what);
     let (drawing, lines) = lines_of(&k4());
-    for field in 0..=u16::MAX {
-        for line in [0, 1, 4] {
-            same_file(Way::Undraw, &with_number(&drawing, lines[line] + 10, field));
+    for number in 0..=u16::MAX {
+        for &line in numbers {
+            let changed = with_number(&drawing, lines[line] + offset, number);
+            same_file(Way::Undraw, &changed);
             tally.count();
         }
     }
     tally.say();
 }
 
-// Every 16-bit number as an earlier point, where no bit is a mark.
+// The last field of a feeder, a guide and a plain line.
+#[test]
+fn every_last_field() {
+    every_number_in_lines("feeders, every last field", &[0, 1, 4], 10);
+}
+
+// An earlier point, where no bit is a mark.
 #[test]
 fn every_earlier_point_of_a_drawing_file() {
-    let mut tally = Tally::new("feeders, every earlier point of a drawing file");
-    let (drawing, lines) = lines_of(&k4());
-    for earlier in 0..=u16::MAX {
-        for line in [0, 1, 2, 3, 6] {
-            same_file(
-                Way::Undraw,
-                &with_number(&drawing, lines[line] + 4, earlier),
-            );
-            tally.count();
-        }
-    }
-    tally.say();
+    let what = "feeders, every earlier point of a drawing file";
+    every_number_in_lines(what, &[0, 1, 2, 3, 6], 4);
 }
