@@ -12,7 +12,7 @@ use Rattle.rules.specs.Basics.{headOf}
 use Rattle.rules.specs.Refusals.{good}
 use Rattle.rules.specs.Points.{Drawing, lineAt}
 use Rattle.rules.specs.Ports.{bendPlace}
-use Rattle.rules.specs.Records.{headSize, placeSize, lineSize, written, wordsIn, drawingHead, lineShape, endShape}
+use Rattle.rules.specs.Records.{bytesIn, headSize, placeSize, lineSize, written, wordsIn, drawingHead, lineShape, endShape}
 use Rattle.rules.specs.DrawingFile.{lastField, lineWords, writePoints, writeLines, drawingBytes, readDrawing}
 use Rattle.exchange.specs.Built.{Whole}
 use Rattle.exchange.specs.DrawingRead.{drawing-read, sizes, headWords}
@@ -21,26 +21,29 @@ use Rattle.exchange.specs.DrawingRead.{drawing-read, sizes, headWords}
 abbrev pub numberAt : List ℕ → ℕ → ℕ
 numberAt bytes at = headOf (wordsIn 1 (drop at bytes))
 
--- where line i of the drawing file of n points has its last field: behind the header, the points, the lines before it, its mark and four numbers
+-- where line i has its last field: among the lines, behind those before it, its mark and four numbers; and in the drawing file of n points
+abbrev pub fieldAmong : ℕ → ℕ
+fieldAmong i = lineSize * i + bytesIn 4
+
 abbrev pub fieldPlace : ℕ → ℕ → ℕ
-fieldPlace n i = headSize + (placeSize * n + (lineSize * i + 10))
+fieldPlace n i = headSize + (placeSize * n + fieldAmong i)
 
 -- a number written at the start, with anything behind it
 number-first : (v : ℕ) (rest : List ℕ) → headOf (wordsIn 1 ((v / 256) ∷ (v % 256) ∷ rest)) ≡ v
 number-first v rest = omega arith
 
--- the bytes past those of a list, at any offset behind it
+-- a number behind some bytes
 number-behind : (l rest : List ℕ) (at : ℕ) → numberAt (l ++ rest) (length l + at) ≡ numberAt rest at
 number-behind l rest at = ap (λ (b : List ℕ). headOf (wordsIn 1 b)) (drop-append-add l rest at)
 
 -- the last field of line i of some lines
-field-in : (d : Drawing) (ls : List Line) (rest : List ℕ) (z : Line) (i : ℕ) → i < length ls → numberAt (writeLines d ls ++ rest) (lineSize * i + 10) ≡ lastField (getD ls i z .kind)
+field-in : (d : Drawing) (ls : List Line) (rest : List ℕ) (z : Line) (i : ℕ) → i < length ls → numberAt (writeLines d ls ++ rest) (fieldAmong i) ≡ lastField (getD ls i z .kind)
 field-in d [] rest z i h = absurd (omega arith)
 field-in d (l ∷ ls) rest z zero h = number-first (lastField (l .kind)) (writeLines d ls ++ rest)
 field-in d (l ∷ ls) rest z (suc i) h =
     let line = written lineShape (lineWords (d .s) l (bendPlace d l)) in
-    let e : lineSize * suc i + 10 ≡ length line + (lineSize * i + 10) = omega arith in
-    ap (numberAt (writeLines d (l ∷ ls) ++ rest)) e ∙ number-behind line (writeLines d ls ++ rest) (lineSize * i + 10) ∙ field-in d ls rest z i (omega arith)
+    let e : fieldAmong (suc i) ≡ length line + fieldAmong i = omega arith in
+    ap (numberAt (writeLines d (l ∷ ls) ++ rest)) e ∙ number-behind line (writeLines d ls ++ rest) (fieldAmong i) ∙ field-in d ls rest z i (omega arith)
 
 -- the points take 6 bytes each
 points-length : (s : ℕ) (xs ys : List ℕ) → length xs ≡ length ys → length (writePoints s xs ys) ≡ placeSize * length xs
@@ -57,9 +60,9 @@ field-written d w i h =
     let points = writePoints (d .s) (d .xs) (d .ys) in
     let lines = writeLines d (d .lines) ++ written endShape [] in
     let long : placeSize * d .n ≡ length points = omega (arith, points-length (d .s) (d .xs) (d .ys) (z .xs ∙ sym (z .ys)), z .xs) in
-    number-behind head (points ++ lines) (placeSize * d .n + (lineSize * i + 10)) ∙
-    ap (λ (o : ℕ). numberAt (points ++ lines) (o + (lineSize * i + 10))) long ∙
-    number-behind points lines (lineSize * i + 10) ∙
+    number-behind head (points ++ lines) (placeSize * d .n + fieldAmong i) ∙
+    ap (λ (o : ℕ). numberAt (points ++ lines) (o + fieldAmong i)) long ∙
+    number-behind points lines (fieldAmong i) ∙
     field-in d (d .lines) (written endShape []) _ i h
 
 -- a field of a kind
