@@ -1,6 +1,6 @@
 -- The lines of a built drawing give its entries back: those of point p are the lines whose later point is p.
 use Prim.Native.Nat.{ℕ, zero, suc, pred, _+_, _-_, _<_, _≤_}
-use mathlib.Core.Path.{_≡_, refl, ap, sym, subst₂, _∙_}
+use mathlib.Core.Path.{_≡_, refl, ap, sym, subst, subst₂, _∙_}
 use mathlib.Core.Bool.{Bool, true, false}
 use mathlib.Core.List.{List, [], _∷_, _++_, map, append-nil}
 use native.Mathlib.Omega.{arith}
@@ -9,6 +9,7 @@ use lib.Seq.{getD-append-seam}
 use lib.Dec.{eqb, ltb}
 use borrow.Author.Tests.{eq-eqb, ne-eqb, eqb-true, eqb-false, ltb-true, ltb-false}
 use Rattle.rules.specs.declared.Line.{Line}
+use Rattle.rules.specs.declared.Style.{Style}
 use Rattle.rules.specs.declared.Entry.{Entry}
 use Rattle.rules.specs.declared.Bend.{Bend}
 use Rattle.rules.specs.Basics.{if_then_else_, keep, snoc}
@@ -79,6 +80,7 @@ entries-words p ls = go (keep (ends p) ls)
 
 -- what a call adds to the lines
 pub record Lengthened (d e : Drawing) (es : List Entry) : Type 0 where
+  pub style : e .style ≡ d .style
   pub n : e .n ≡ d .n
   pub s : e .s ≡ d .s
   pub k : e .k ≡ suc (d .k)
@@ -88,7 +90,7 @@ pub record Lengthened (d e : Drawing) (es : List Entry) : Type 0 where
 -- promise's next drawing has those lines
 lengthened-next : (d : Drawing) (es : List Entry) (l r : ℕ) → Lengthened d (next d es l r) es
 unfolding next
-lengthened-next d es l r = record { n = refl; s = refl; k = refl; bend = _; lines = refl }
+lengthened-next d es l r = record { style = refl; n = refl; s = refl; k = refl; bend = _; lines = refl }
 
 -- and so has the drawing after an accepted call
 pub lengthened : (d e : Drawing) (es : List Entry) → addEntries d es ≡ good e → Lengthened d e es
@@ -101,7 +103,8 @@ abbrev pub every : List Entry → List Entry → List (List Entry) → List (Lis
 every second third rest = [] ∷ second ∷ third ∷ rest
 
 -- what the list of entries says of the drawing
-pub record Listed (n s : ℕ) (second third : List Entry) (rest : List (List Entry)) (d : Drawing) : Type 0 where
+pub record Listed (τ : Style) (n s : ℕ) (second third : List Entry) (rest : List (List Entry)) (d : Drawing) : Type 0 where
+  pub is-style : d .style ≡ τ
   pub is-n : d .n ≡ n
   pub is-s : d .s ≡ s
   pub is-k : d .k ≡ 3 + length rest
@@ -124,11 +127,11 @@ third-is (a ∷ b ∷ []) h =
 third-is (a ∷ b ∷ c ∷ es) h = absurd (let z : _≡_ {A = ℕ} 0 1 = cc in omega arith)
 
 -- the drawing that points 2 and 3 begin
-listed-start : (n s : ℕ) (second third : List Entry) → pointsOf second ≡ 1 ∷ [] → pointsOf third ≡ 1 ∷ 2 ∷ [] →
-    Listed n s second third [] (startWith n s second third)
-listed-start n s second third a b = record { is-n = refl; is-s = refl; is-k = refl; entries = go }
+listed-start : (τ : Style) (n s : ℕ) (second third : List Entry) → pointsOf second ≡ 1 ∷ [] → pointsOf third ≡ 1 ∷ 2 ∷ [] →
+    Listed τ n s second third [] (startWith τ n s second third)
+listed-start τ n s second third a b = record { is-style = refl; is-n = refl; is-s = refl; is-k = refl; entries = go }
   where
-    go : (p : ℕ) → 0 < p → entriesAt p (startWith n s second third .lines) ≡ getD (every second third []) (pred p) []
+    go : (p : ℕ) → 0 < p → entriesAt p (startWith τ n s second third .lines) ≡ getD (every second third []) (pred p) []
     go zero h = absurd (omega arith)
     go (suc zero) h = refl
     go (suc (suc zero)) h = second-is second a
@@ -171,11 +174,12 @@ entries-more all k size f es ls p low h = entries-append p ls (newLines (suc k) 
         rw new (append-nil (entriesAt p ls) ∙ h ∙ sym (before-end all es [] (pred p) (λ x. e (omega arith))))
 
 -- the drawing after one more call
-listed-added : (n s : ℕ) (second third : List Entry) (rest : List (List Entry)) (d e : Drawing) (es : List Entry) →
-    Listed n s second third rest d → addEntries d es ≡ good e → Listed n s second third (snoc rest es) e
-listed-added n s second third rest d e es t h =
+listed-added : (τ : Style) (n s : ℕ) (second third : List Entry) (rest : List (List Entry)) (d e : Drawing) (es : List Entry) →
+    Listed τ n s second third rest d → addEntries d es ≡ good e → Listed τ n s second third (snoc rest es) e
+listed-added τ n s second third rest d e es t h =
     let a = lengthened d e es h in
     record {
+      is-style = a .style ∙ t .is-style;
       is-n = a .n ∙ t .is-n;
       is-s = a .s ∙ t .is-s;
       is-k = omega (arith, a .k, t .is-k, length-append rest (es ∷ []));
@@ -183,12 +187,12 @@ listed-added n s second third rest d e es t h =
     }
 
 -- every built drawing is listed so
-pub listed : {n s : ℕ} {second third : List Entry} {rest : List (List Entry)} {d : Drawing} → Built n s second third rest d → Listed n s second third rest d
-listed {n} {s} {second} {third} (begun a b) = listed-start n s second third a b
-listed {n} {s} {second} {third} (added {ess = ess} {d = d} {e = e} es b h) = listed-added n s second third ess d e es (listed b) h
+pub listed : {τ : Style} {n s : ℕ} {second third : List Entry} {rest : List (List Entry)} {d : Drawing} → Built τ n s second third rest d → Listed τ n s second third rest d
+listed {τ} {n} {s} {second} {third} (begun a b) = listed-start τ n s second third a b
+listed {τ} {n} {s} {second} {third} (added {ess = ess} {d = d} {e = e} es b h) = listed-added τ n s second third ess d e es (listed b) h
 
 -- A drawing built for n points at the scale s is reached, and with entries for all n points it is whole.
-module _ {n s : ℕ} {second third : List Entry} {rest : List (List Entry)} {d : Drawing} (range : (3 ≤ n) × (n ≤ 1024)) (scale : (1 ≤ s) × (s ≤ 8)) (built : Built n s second third rest d) where
+module _ {τ : Style} {n s : ℕ} {second third : List Entry} {rest : List (List Entry)} {d : Drawing} (range : (3 ≤ n) × (n ≤ 1024)) (scale : (1 ≤ s) × (s ≤ 8)) (built : Built τ n s second third rest d) where
   pub reached-so : Reached d
   reached-so =
       let t = listed built in
@@ -196,7 +200,7 @@ module _ {n s : ℕ} {second third : List Entry} {rest : List (List Entry)} {d :
         second = second;
         third = third;
         rest = rest;
-        built = subst₂ (λ (n s : ℕ). Built n s second third rest d) (sym (t .is-n)) (sym (t .is-s)) built;
+        built = subst (λ (τ : Style). Built τ (d .n) (d .s) second third rest d) (sym (t .is-style)) (subst₂ (λ (n s : ℕ). Built τ n s second third rest d) (sym (t .is-n)) (sym (t .is-s)) built);
         low = rw (t .is-n) (range .0);
         high = rw (t .is-n) (range .1);
         scale = rw (t .is-s) scale;

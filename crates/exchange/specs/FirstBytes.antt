@@ -8,10 +8,13 @@ use lib.ListN.{length, take, drop, getD, length-append, length-drop, take-append
 use lib.Seq.{take-all, length-take-le, drop-append-le}
 use lib.Dec.{leb, ltb, eqb}
 use borrow.Author.Tests.{le-ltb, lt-ltb, leb-true, leb-false}
+use Rattle.rules.specs.declared.Style.{Style}
+use Rattle.rules.specs.declared.Style.the-variants.{OneBend, Straight}
 use Rattle.rules.specs.declared.Refusal.{Refusal}
 use Rattle.rules.specs.declared.Refusal.the-variants.{WrongMark, ExtraBytes, OutOfRange, Unfinished}
 use Rattle.rules.specs.Basics.{headOf, between}
 use Rattle.rules.specs.Refusals.{Result, good, refused, _>>=_, _>>_, refuseIf}
+use Rattle.rules.specs.Styles.{lineNumbers}
 use Rattle.rules.specs.Points.{Drawing}
 use Rattle.rules.specs.Records.{plain, Cursor, Found, Several, skip, wordsIn, wordsAt, readRecord, several, readEnd, fromStart, pointPlace, lineShape, endMark, bytesIn, headSize, placeSize}
 use Rattle.rules.specs.OrderFile.{writeOrder}
@@ -72,12 +75,17 @@ abbrev behind : ℕ
 behind = suc longestDrawing - headSize
 
 -- what is read of a drawing file there
-abbrev behindHead : ℕ → ℕ → Cursor → Result Drawing
-behindHead n s at = do
+abbrev behindHead : Style → ℕ → ℕ → Cursor → Result Drawing
+behindHead τ n s at = do
   ps ← several n pointPlace at
-  ls ← several (3 * n - 6) lineShape (ps .next)
+  ls ← several (3 * n - 6) (lineShape τ) (ps .next)
   readEnd (ls .next)
-  judgeLines n s (ls .next .offset) (ls .all)
+  judgeLines τ n s (ls .next .offset) (ls .all)
+
+-- the lines of either style take no more bytes than those with a bend
+lines-most : (τ : Style) (c : ℕ) → c * bytesIn (lineNumbers τ) ≤ c * 12
+lines-most OneBend c = omega arith
+lines-most Straight c = omega arith
 
 module _ (x : List ℕ) where
   -- c numbers, and k bytes or more behind them
@@ -126,36 +134,36 @@ module _ (x : List ℕ) where
       go false o e q h = rw (lt-ltb 0 (length q) h, lt-ltb 0 (length (q ++ x)) (omega (arith, length-append q x))) (refusals ExtraBytes e)
 
   -- a file that is longer than every drawing file is refused
-  judge-alike : (p : List ℕ) → longestDrawing < length p → Alike Never (judgeDrawing p) (judgeDrawing (p ++ x))
+  judge-alike : (τ : Style) (p : List ℕ) → longestDrawing < length p → Alike Never (judgeDrawing τ p) (judgeDrawing τ (p ++ x))
   unfolding judgeDrawing
-  judge-alike p h =
+  judge-alike τ p h =
       then-alike (record-alike _ 4 behind (fromStart p) (omega arith)) λ f g t.
       rw (t .same) (go f (t .left) (not (between 3 1024 (getD (f .words) 0 0) && between 1 8 (getD (f .words) 1 0))) refl)
     where
       go : (f : Found) → behind ≤ length (f .next .bytes) → (b : Bool) → not (between 3 1024 (getD (f .words) 0 0) && between 1 8 (getD (f .words) 1 0)) ≡ b → Alike Never
-          (refuseIf b OutOfRange 0 >> behindHead (getD (f .words) 0 0) (getD (f .words) 1 0) (f .next))
-          (refuseIf b OutOfRange 0 >> behindHead (getD (f .words) 0 0) (getD (f .words) 1 0) (more x (f .next)))
+          (refuseIf b OutOfRange 0 >> behindHead τ (getD (f .words) 0 0) (getD (f .words) 1 0) (f .next))
+          (refuseIf b OutOfRange 0 >> behindHead τ (getD (f .words) 0 0) (getD (f .words) 1 0) (more x (f .next)))
       go f l true e = refusals OutOfRange 0
       go f l false e =
           let n = getD (f .words) 0 0 in
           let r = good-range n (getD (f .words) 1 0) e in
           then-alike (several-alike _ 2 n (behind - n * placeSize) (f .next) (omega (arith, r .1))) λ ps qs t.
           rw (t .same)
-          (then-alike (several-alike _ 5 (3 * n - 6) 3 (ps .next) (omega (arith, r .0, r .1, t .left))) λ ls ms u.
+          (then-alike (several-alike _ (lineNumbers τ) (3 * n - 6) 3 (ps .next) (omega (arith, r .0, r .1, t .left, lines-most τ (3 * n - 6)))) λ ls ms u.
           rw (u .same) (end-alike (ls .next) _ _ (u .left)))
 
   -- and so read alike
-  drawing-same : (p : List ℕ) → longestDrawing < length p → readDrawing p ≡ readDrawing (p ++ x)
+  drawing-same : (τ : Style) (p : List ℕ) → longestDrawing < length p → readDrawing τ p ≡ readDrawing τ (p ++ x)
   unfolding readDrawing
-  drawing-same p h = never-same _ _ (judge-alike p h)
+  drawing-same τ p h = never-same _ _ (judge-alike τ p h)
 
 -- THE FIRST BYTES DECIDE: one byte more than the longest drawing file has is enough, and so is any number above.
-pub first-bytes : (r : ℕ) (f : List ℕ) → longestDrawing < r → orderBack (take r f) ≡ orderBack f
-first-bytes r f h = go (leb (length f) r) refl
+pub first-bytes : (τ : Style) (r : ℕ) (f : List ℕ) → longestDrawing < r → orderBack τ (take r f) ≡ orderBack τ f
+first-bytes τ r f h = go (leb (length f) r) refl
   where
-    go : (t : Bool) → leb (length f) r ≡ t → orderBack (take r f) ≡ orderBack f
-    go true e = ap orderBack (take-all r f (leb-true (length f) r e))
+    go : (t : Bool) → leb (length f) r ≡ t → orderBack τ (take r f) ≡ orderBack τ f
+    go true e = ap (orderBack τ) (take-all r f (leb-true (length f) r e))
     go false e =
         let l = leb-false (length f) r e in
-        ap (λ (o : Result Drawing). o >>= λ d. refuseIf (ltb (d .k) (d .n)) Unfinished 0 >> good (writeOrder d)) (drawing-same (drop r f) (take r f) (omega (arith, length-take-le r f (omega arith)))) ∙
-        ap orderBack (take-append-drop r f)
+        ap (λ (o : Result Drawing). o >>= λ d. refuseIf (ltb (d .k) (d .n)) Unfinished 0 >> good (writeOrder d)) (drawing-same (drop r f) τ (take r f) (omega (arith, length-take-le r f (omega arith)))) ∙
+        ap (orderBack τ) (take-append-drop r f)

@@ -1,55 +1,56 @@
--- DEMAND 3 of every drawing that is handed out: whatever opening and calls, an order file or a drawing file give keeps the promise, and no subtraction of the rules truncates there.
+-- DEMAND 3 AND WISH 2 of every drawing that is handed out: whatever opening and calls, an order file or a drawing file give keeps the promise of its style, and no subtraction of the rules truncates there.
 use Prim.Native.Nat.{ℕ}
-use mathlib.Core.Path.{_≡_}
+use mathlib.Core.Path.{_≡_, subst}
 use mathlib.Core.List.{List}
+use Rattle.rules.specs.declared.Style.{Style}
 use Rattle.rules.specs.Refusals.{good}
 use Rattle.rules.specs.Points.{Drawing}
 use Rattle.rules.specs.OrderFile.{readOrder}
 use Rattle.rules.specs.DrawingFile.{readDrawing}
-use Rattle.promise.specs.Promise.{Promise}
-use Rattle.promise.specs.Sound.{Sound}
-use Rattle.promise.specs.Exact.{Exact, sound-exact}
-use Rattle.promise.specs.Theorem.{sound-keeps}
+use Rattle.promise.specs.Promise.{Promised}
+use Rattle.promise.specs.Bounds.{Standing}
+use Rattle.promise.specs.Exact.{ExactBy, sound-exact}
+use Rattle.promise.specs.Theorem.{standing-keeps}
 use Rattle.exchange.specs.Built.{Reached}
 use Rattle.exchange.specs.DrawingRead.{standing, drawing-read}
-use Rattle.exchange.specs.WholeRead.{whole-read}
+use Rattle.exchange.specs.WholeRead.{whole-read, style-read}
 
 -- ---- what is reached: by opening and calls (`Reaching`), by an order file, by a drawing file
 
-pub order-reached : (o : List ℕ) (d : Drawing) → readOrder o ≡ good d → Reached d
-order-reached o d h = whole-read o d h .reached
+pub order-reached : (τ : Style) (o : List ℕ) (d : Drawing) → readOrder τ o ≡ good d → Reached d
+order-reached τ o d h = whole-read τ o d h .reached
 
-pub drawing-reached : (b : List ℕ) (d : Drawing) → readDrawing b ≡ good d → Reached d
-drawing-reached b d h = drawing-read b d h .0 .reached
+pub drawing-reached : (τ : Style) (b : List ℕ) (d : Drawing) → readDrawing τ b ≡ good d → Reached d
+drawing-reached τ b d h = drawing-read τ b d h .0 .reached
 
--- it is sound
-reached-sound : (d : Drawing) → Reached d → Sound d
-reached-sound d r = standing (r .built) (r .low) (r .high) .sound
+-- it stands
+reached-stands : (d : Drawing) → Reached d → Standing d
+reached-stands d r = standing (r .built) (r .low) (r .high)
 
--- ---- demand 3
+-- ---- the promise
 
--- Every drawing that is reached keeps the promise.
-pub reached-keeps : (d : Drawing) → Reached d → Promise d
-reached-keeps d r = sound-keeps d (reached-sound d r)
+-- Every drawing that is reached keeps it.
+pub reached-keeps : (d : Drawing) → Reached d → Promised (d .style) d
+reached-keeps d r = standing-keeps d (reached-stands d r)
 
 -- So does the drawing of an accepted order file.
-pub read-keeps : (o : List ℕ) (d : Drawing) → readOrder o ≡ good d → Promise d
-read-keeps o d h = reached-keeps d (order-reached o d h)
+pub read-keeps : (τ : Style) (o : List ℕ) (d : Drawing) → readOrder τ o ≡ good d → Promised τ d
+read-keeps τ o d h = subst (λ σ. Promised σ d) (style-read τ o d h) (reached-keeps d (order-reached τ o d h))
 
 -- So does the drawing of a drawing file that is read.
-pub drawing-read-keeps : (b : List ℕ) (d : Drawing) → readDrawing b ≡ good d → Promise d
-drawing-read-keeps b d h = reached-keeps d (drawing-reached b d h)
+pub drawing-read-keeps : (τ : Style) (b : List ℕ) (d : Drawing) → readDrawing τ b ≡ good d → Promised τ d
+drawing-read-keeps τ b d h = subst (λ σ. Promised σ d) (drawing-read τ b d h .2) (reached-keeps d (drawing-reached τ b d h))
 
 -- ---- no subtraction truncates
 
 -- Every drawing that is reached is exact.
-pub reached-exact : (d : Drawing) → Reached d → Exact d
-reached-exact d r = sound-exact d (reached-sound d r)
+pub reached-exact : (d : Drawing) → Reached d → ExactBy (d .style) d
+reached-exact d r = sound-exact d (reached-stands d r .sound)
 
 -- So is the drawing of an accepted order file.
-pub read-exact : (o : List ℕ) (d : Drawing) → readOrder o ≡ good d → Exact d
-read-exact o d h = reached-exact d (order-reached o d h)
+pub read-exact : (τ : Style) (o : List ℕ) (d : Drawing) → readOrder τ o ≡ good d → ExactBy τ d
+read-exact τ o d h = subst (λ σ. ExactBy σ d) (style-read τ o d h) (reached-exact d (order-reached τ o d h))
 
 -- So is the drawing of a drawing file that is read.
-pub drawing-read-exact : (b : List ℕ) (d : Drawing) → readDrawing b ≡ good d → Exact d
-drawing-read-exact b d h = reached-exact d (drawing-reached b d h)
+pub drawing-read-exact : (τ : Style) (b : List ℕ) (d : Drawing) → readDrawing τ b ≡ good d → ExactBy τ d
+drawing-read-exact τ b d h = subst (λ σ. ExactBy σ d) (drawing-read τ b d h .2) (reached-exact d (drawing-reached τ b d h))

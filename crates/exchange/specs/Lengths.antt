@@ -1,4 +1,4 @@
--- HOW LONG THE FILES ARE: an accepted order file has 10 n - 6 bytes, 4 more with a scale record; a drawing file that is read or drawn has 42 n - 60.
+-- HOW LONG THE FILES ARE: an accepted order file has 10 n - 6 bytes, 4 more with a scale record; a drawing file that is read or drawn has 42 n - 60, a straight one 30 n - 36.
 -- So "no accepted order file is longer than 10,238", and each for n = 1,024 with a scale record is as long, whatever its net.
 -- Nothing is asked of the numbers in a file: they need not be bytes.
 use Prim.Native.Nat.{ℕ, zero, suc, _+_, _-_, _*_, _≤_}
@@ -9,16 +9,19 @@ use native.Mathlib.Omega.{arith}
 use lib.ListN.{length, length-map, length-drop}
 use lib.Dec.{ltb, eqb}
 use borrow.Author.Tests.{ltb-false, ne-eqb, not-false}
+use Rattle.rules.specs.declared.Style.{Style}
+use Rattle.rules.specs.declared.Style.the-variants.{OneBend, Straight}
 use Rattle.rules.specs.declared.Entry.{Entry}
 use Rattle.rules.specs.declared.Refusal.the-variants.{FileEnds, WrongMark, OutOfRange, ExtraBytes}
 use Rattle.rules.specs.Basics.{if_then_else_, between}
 use Rattle.rules.specs.Refusals.{good, placed, _>>=_, refuseIf}
+use Rattle.rules.specs.Styles.{drawingLength}
 use Rattle.rules.specs.Points.{Drawing}
 use Rattle.rules.specs.Adding.{addRead, pointsOf}
 use Rattle.rules.specs.Readings.{entryOf, add-entries}
-use Rattle.rules.specs.Records.{plain, counted, Cursor, Found, first, wordsIn, skip, wordsAt, restOf, readRecord, readEnd, marked, fromStart, orderHead, scaleShape, pointEntries, endShape}
+use Rattle.rules.specs.Records.{plain, counted, Cursor, Found, first, wordsIn, skip, wordsAt, restOf, readRecord, readEnd, marked, fromStart, orderHead, scaleShape, pointEntries, lineSize, endShape}
 use Rattle.rules.specs.OrderFile.{Scaled, givenScale, readScale, entriesIn, startWith, readRest, readPoints, readOrder, longestOrder, writeOrder}
-use Rattle.rules.specs.DrawingFile.{drawingBytes, drawingLength, longestDrawing, writeDrawing, drawFile, readDrawing, orderBack}
+use Rattle.rules.specs.DrawingFile.{drawingBytes, longestDrawing, writeDrawing, drawFile, readDrawing, orderBack}
 use Rattle.rules.specs.Bools.{in-range}
 use Rattle.rules.specs.Results.{same-value, bound, followed, tested, test-false, placed-good}
 use Rattle.rules.specs.Lengths.{length-points, length-words}
@@ -27,7 +30,7 @@ use Rattle.exchange.specs.Built.{Whole}
 use Rattle.exchange.specs.Entries.{lengthened}
 use Rattle.exchange.specs.OrderRead.{saidIn, three-read}
 use Rattle.exchange.specs.OrderWrite.{order-written}
-use Rattle.exchange.specs.WholeRead.{whole-read}
+use Rattle.exchange.specs.WholeRead.{whole-read, style-read}
 use Rattle.exchange.specs.DrawingRead.{sizes, drawing-read, length-drawing}
 use Rattle.exchange.specs.Demand2.{drawn-as, undraw-draw}
 
@@ -102,11 +105,11 @@ wanted : (es : List Entry) (ps : List ℕ) → pointsOf es ≡ ps → length es 
 wanted es ps h = sym (length-points es) ∙ ap length h
 
 -- all n points: 4 bytes for each, 2 for each line, 2 for the end
-points-grew : (n s : ℕ) (at : Cursor) (e : Drawing) → 3 ≤ n → readPoints n s at ≡ good e →
+points-grew : (τ : Style) (n s : ℕ) (at : Cursor) (e : Drawing) → 3 ≤ n → readPoints τ n s at ≡ good e →
     (e .n ≡ n) × (e .s ≡ s) × (length (at .bytes) ≡ 4 * n + 2 * length (e .lines) + 2)
-points-grew n s at e low q =
-    let t = three-read n s at e q in
-    let r = rest-grew (n - 3) (startWith n s (saidIn (t .g)) (saidIn (t .h))) e (t .h .next) (t .last) in
+points-grew τ n s at e low q =
+    let t = three-read τ n s at e q in
+    let r = rest-grew (n - 3) (startWith τ n s (saidIn (t .g)) (saidIn (t .h))) e (t .h .next) (t .last) in
     let a = took-point at (t .f) (t .first) in
     let b = took-point (t .f .next) (t .g) (t .second) in
     let c = took-point (t .g .next) (t .h) (t .third) in
@@ -143,26 +146,26 @@ took-scale at c h = go (marked scaleShape at) h
 -- ---- order files
 
 -- an accepted order file has 6 bytes, those of its scale, 4 for each point and 2 for each line
-read-size : (o : List ℕ) (d : Drawing) → readOrder o ≡ good d → length o ≡ 6 + scaleBytes (d .s) + 4 * d .n + 2 * length (d .lines)
+read-size : (τ : Style) (o : List ℕ) (d : Drawing) → readOrder τ o ≡ good d → length o ≡ 6 + scaleBytes (d .s) + 4 * d .n + 2 * length (d .lines)
 unfolding readOrder
-read-size o d h =
+read-size τ o d h =
     let f = bound (readRecord orderHead (fromStart o)) _ d h in
     let n = first (f .value) in
     let g = tested (not (between 3 1024 n)) OutOfRange 0 _ d (f .last) in
-    let c = bound (readScale (f .value .next)) (λ c. readPoints n (c .s) (c .next)) d (g .last) in
+    let c = bound (readScale (f .value .next)) (λ c. readPoints τ n (c .s) (c .next)) d (g .last) in
     let z = in-range 3 1024 n (not-false _ (g .passed)) in
-    let p = points-grew n (c .value .s) (c .value .next) d (z .0) (c .last) in
+    let p = points-grew τ n (c .value .s) (c .value .next) d (z .0) (c .last) in
     let a = took-plain (orderHead .mark) 1 (fromStart o) (f .value) (f .first) in
     let b = took-scale (f .value .next) (c .value) (c .first) in
     omega (arith, a .rest, b, p .0, p .2, ap scaleBytes (p .1))
 
 -- AN ACCEPTED ORDER FILE has 10 n - 6 bytes, and the scale's.
-pub order-length : (o : List ℕ) (d : Drawing) → readOrder o ≡ good d → length o + 6 ≡ 10 * d .n + scaleBytes (d .s)
-order-length o d h = omega (arith, read-size o d h, sizes d (whole-read o d h) .lines)
+pub order-length : (τ : Style) (o : List ℕ) (d : Drawing) → readOrder τ o ≡ good d → length o + 6 ≡ 10 * d .n + scaleBytes (d .s)
+order-length τ o d h = omega (arith, read-size τ o d h, sizes d (whole-read τ o d h) .lines)
 
 -- So has the order file of a finished drawing.
 pub order-size : (d : Drawing) → Whole d → length (writeOrder d) + 6 ≡ 10 * d .n + scaleBytes (d .s)
-order-size d w = order-length (writeOrder d) d (order-written d w)
+order-size d w = order-length (d .style) (writeOrder d) d (order-written d w)
 
 -- a scale's record has 4 bytes at most
 scale-most : (s : ℕ) → scaleBytes s ≤ 4
@@ -173,41 +176,58 @@ scale-most s = go (eqb s 1)
     go false = omega arith
 
 -- "No accepted order file is longer than 10,238."
-pub order-most : (o : List ℕ) (d : Drawing) → readOrder o ≡ good d → length o ≤ longestOrder
-order-most o d h = omega (arith, order-length o d h, scale-most (d .s), whole-read o d h .reached .high)
+pub order-most : (τ : Style) (o : List ℕ) (d : Drawing) → readOrder τ o ≡ good d → length o ≤ longestOrder
+order-most τ o d h = omega (arith, order-length τ o d h, scale-most (d .s), whole-read τ o d h .reached .high)
 
 -- Each for 1,024 points with a scale record is as long, so that no smaller bound holds of them.
-pub order-longest : (o : List ℕ) (d : Drawing) → readOrder o ≡ good d → d .n ≡ 1024 → 2 ≤ d .s → length o ≡ longestOrder
-order-longest o d h n s =
+pub order-longest : (τ : Style) (o : List ℕ) (d : Drawing) → readOrder τ o ≡ good d → d .n ≡ 1024 → 2 ≤ d .s → length o ≡ longestOrder
+order-longest τ o d h n s =
     let e : scaleBytes (d .s) ≡ 4 = rw (ne-eqb (d .s) 1 (omega (arith, s))) in
-    omega (arith, order-length o d h, n, e)
+    omega (arith, order-length τ o d h, n, e)
 
 -- An order file that comes back from a drawing file isn't longer either.
-pub back-most : (b o : List ℕ) → orderBack b ≡ good o → length o ≤ longestOrder
-back-most b o h = let r = bound (readOrder o) writeDrawing b (undraw-draw b o h) in order-most o (r .value) (r .first)
+pub back-most : (τ : Style) (b o : List ℕ) → orderBack τ b ≡ good o → length o ≤ longestOrder
+back-most τ b o h = let r = bound (readOrder τ o) writeDrawing b (undraw-draw τ b o h) in order-most τ o (r .value) (r .first)
 
--- ---- drawing files: "Size: 42n - 60 bytes."
+-- ---- drawing files: "Size: 42n - 60 bytes", and a straight one's "is then 4 bytes a line less"
 
 -- The drawing file of a finished drawing.
-pub whole-length : (d : Drawing) → Whole d → length (drawingBytes d) ≡ drawingLength (d .n)
-whole-length d w = omega (arith, length-drawing d w)
+pub whole-length : (d : Drawing) → Whole d → length (drawingBytes d) ≡ drawingLength (d .style) (d .n)
+whole-length d w = length-drawing d w ∙ go (d .style) (d .n) (w .reached .low)
+  where
+    go : (τ : Style) (n : ℕ) → 3 ≤ n → 12 + 6 * n + (3 * n - 6) * lineSize τ ≡ drawingLength τ n
+    go OneBend n low = omega arith
+    go Straight n low = omega arith
 
 -- A DRAWING FILE THAT IS READ.
-pub drawing-length : (b : List ℕ) (d : Drawing) → readDrawing b ≡ good d → length b ≡ drawingLength (d .n)
-drawing-length b d h = let t = drawing-read b d h in ap length (t .1) ∙ whole-length d (t .0)
+pub drawing-length : (τ : Style) (b : List ℕ) (d : Drawing) → readDrawing τ b ≡ good d → length b ≡ drawingLength τ (d .n)
+drawing-length τ b d h = let t = drawing-read τ b d h in ap length (t .1) ∙ whole-length d (t .0) ∙ ap (λ σ. drawingLength σ (d .n)) (t .2)
 
 -- THE DRAWING FILE OF AN ACCEPTED ORDER FILE.
-pub drawn-length : (o b : List ℕ) (d : Drawing) → readOrder o ≡ good d → drawFile o ≡ good b → length b ≡ drawingLength (d .n)
-drawn-length o b d h q =
-    let w = whole-read o d h in
-    ap length (same-value b (drawingBytes d) (sym q ∙ drawn-as o d w h)) ∙ whole-length d w
+pub drawn-length : (τ : Style) (o b : List ℕ) (d : Drawing) → readOrder τ o ≡ good d → drawFile τ o ≡ good b → length b ≡ drawingLength τ (d .n)
+drawn-length τ o b d h q =
+    let w = whole-read τ o d h in
+    ap length (same-value b (drawingBytes d) (sym q ∙ drawn-as τ o d w h)) ∙ whole-length d w ∙ ap (λ σ. drawingLength σ (d .n)) (style-read τ o d h)
 
--- A drawing file that is read isn't longer than that of 1,024 points, 42,948 bytes.
-pub drawing-most : (b : List ℕ) (d : Drawing) → readDrawing b ≡ good d → length b ≤ longestDrawing
-drawing-most b d h = omega (arith, drawing-length b d h, drawing-read b d h .0 .reached .high)
+-- Four bytes a line less.
+pub straight-length : (n : ℕ) → 3 ≤ n → drawingLength Straight n + 4 * (3 * n - 6) ≡ drawingLength OneBend n
+straight-length n low = omega arith
+
+-- Neither is longer than the one-bend file of 1,024 points.
+pub length-most : (τ : Style) (n : ℕ) → n ≤ 1024 → drawingLength τ n ≤ longestDrawing
+length-most OneBend n h = omega arith
+length-most Straight n h = omega arith
+
+-- The drawing file of a finished drawing isn't longer than that of 1,024 points with bends, 42,948 bytes.
+pub whole-most : (d : Drawing) → Whole d → length (drawingBytes d) ≤ longestDrawing
+whole-most d w = omega (arith, whole-length d w, length-most (d .style) (d .n) (w .reached .high))
+
+-- Nor is one that is read.
+pub drawing-most : (τ : Style) (b : List ℕ) (d : Drawing) → readDrawing τ b ≡ good d → length b ≤ longestDrawing
+drawing-most τ b d h = omega (arith, drawing-length τ b d h, length-most τ (d .n) (drawing-read τ b d h .0 .reached .high))
 
 -- The same of the drawing of an accepted order file.
-pub drawn-most : (o b : List ℕ) → drawFile o ≡ good b → length b ≤ longestDrawing
-drawn-most o b q =
-    let r = bound (readOrder o) writeDrawing b q in
-    omega (arith, drawn-length o b (r .value) (r .first) q, whole-read o (r .value) (r .first) .reached .high)
+pub drawn-most : (τ : Style) (o b : List ℕ) → drawFile τ o ≡ good b → length b ≤ longestDrawing
+drawn-most τ o b q =
+    let r = bound (readOrder τ o) writeDrawing b q in
+    omega (arith, drawn-length τ o b (r .value) (r .first) q, length-most τ (r .value .n) (whole-read τ o (r .value) (r .first) .reached .high))

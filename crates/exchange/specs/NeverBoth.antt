@@ -5,6 +5,7 @@ use mathlib.Core.Bool.{Bool, true, false, not, _&&_, _||_, true≢false}
 use mathlib.Core.List.{List, [], _∷_, map}
 use lib.ListN.{length, getD, drop}
 use lib.Dec.{leb, ltb, eqb}
+use Rattle.rules.specs.declared.Style.{Style}
 use Rattle.rules.specs.declared.Entry.{Entry}
 use Rattle.rules.specs.declared.Reading.the-variants.{Given}
 use Rattle.rules.specs.declared.Refusal.{Refusal}
@@ -12,6 +13,7 @@ use Rattle.rules.specs.declared.Refusal.the-variants.{FileEnds, WrongMark, OutO
 use Rattle.rules.specs.Basics.{between, same, elem}
 use Rattle.rules.specs.Refusals.{number, Result, good, refused, _>>=_, _>>_, refuseIf, placed}
 use Rattle.rules.specs.Readings.{points-given, tests-of, judge-of, adding}
+use Rattle.rules.specs.Styles.{reachPasses}
 use Rattle.rules.specs.Points.{Drawing, m}
 use Rattle.rules.specs.Adding.{lOf, rOf, inner, rowHeight, pointsOf, spread, newX, newY, allReach, entryTests, runTests, callTests, judge, placedNew, addEntries}
 use Rattle.rules.specs.Records.{Size, plain, counted, Shape, Cursor, Found, first, wordsAt, restOf, readRecord, several, readEnd, endShape, fromStart, drawingHead, pointPlace, lineShape}
@@ -96,38 +98,38 @@ add-other d es =
     let c = spread l r d in
     subst Other (sym (adding d es))
     (then-other (judge d rs) _
-    (subst Other (sym (judge-of d rs run (points-given es))) (then-other (callTests d rs) _ (tests-other d es) (test-other (not (allReach (newX l r c) (newY l r c) (rowHeight run) c 1 (inner run))) NoReach 0 refl)))
+    (subst Other (sym (judge-of d rs run (points-given es))) (then-other (callTests d rs) _ (tests-other d es) (test-other (not (reachPasses (d .style) (allReach (newX l r c) (newY l r c) (rowHeight run) c 1 (inner run)))) NoReach 0 refl)))
     tt)
 
 -- ---- the file
 
-rest-judged : (c end : ℕ) (d : Drawing) (fs : List Found) → Other (judgeRest c end d fs)
+rest-judged : (τ : Style) (c end : ℕ) (d : Drawing) (fs : List Found) → Other (judgeRest τ c end d fs)
 unfolding judgeRest
-rest-judged zero end d fs = tt
-rest-judged (suc c) end d fs =
-    let es = group (suc (d .k)) fs in
-    bind-other (placed (groupPlace end fs) (addEntries d es)) _ (placed-other (groupPlace end fs) (addEntries d es) (add-other d es)) (λ e. rest-judged c end e (behind (suc (d .k)) fs))
+rest-judged τ zero end d fs = tt
+rest-judged τ (suc c) end d fs =
+    let es = group τ (suc (d .k)) fs in
+    bind-other (placed (groupPlace end fs) (addEntries d es)) _ (placed-other (groupPlace end fs) (addEntries d es) (add-other d es)) (λ e. rest-judged τ c end e (behind (suc (d .k)) fs))
 
-lines-judged : (n s end : ℕ) (fs : List Found) → Other (judgeLines n s end fs)
+lines-judged : (τ : Style) (n s end : ℕ) (fs : List Found) → Other (judgeLines τ n s end fs)
 unfolding judgeLines
-lines-judged n s end fs =
+lines-judged τ n s end fs =
     let gs = behind 1 fs in
     let hs = behind 2 gs in
-    goes-other (not (same (pointsOf (group 1 fs)) [])) OtherStart (groupPlace end fs) _ refl
-    (goes-other (not (same (pointsOf (group 2 gs)) (1 ∷ []))) OtherStart (groupPlace end gs) _ refl
-    (goes-other (not (same (pointsOf (group 3 hs)) (1 ∷ 2 ∷ []))) OtherStart (groupPlace end hs) _ refl
-    (rest-judged (n - 3) end (startWith n s (group 2 gs) (group 3 hs)) (behind 3 hs))))
+    goes-other (not (same (pointsOf (group τ 1 fs)) [])) OtherStart (groupPlace end fs) _ refl
+    (goes-other (not (same (pointsOf (group τ 2 gs)) (1 ∷ []))) OtherStart (groupPlace end gs) _ refl
+    (goes-other (not (same (pointsOf (group τ 3 hs)) (1 ∷ 2 ∷ []))) OtherStart (groupPlace end hs) _ refl
+    (rest-judged τ (n - 3) end (startWith τ n s (group τ 2 gs) (group τ 3 hs)) (behind 3 hs))))
 
-drawing-judged : (bytes : List ℕ) → Other (judgeDrawing bytes)
+drawing-judged : (τ : Style) (bytes : List ℕ) → Other (judgeDrawing τ bytes)
 unfolding judgeDrawing
-drawing-judged bytes =
-    bind-other (readRecord drawingHead (fromStart bytes)) _ (record-other drawingHead (fromStart bytes)) (λ f.
+drawing-judged τ bytes =
+    bind-other (readRecord (drawingHead τ) (fromStart bytes)) _ (record-other (drawingHead τ) (fromStart bytes)) (λ f.
     let n = getD (f .words) 0 0 in
     let s = getD (f .words) 1 0 in
     goes-other (not (between 3 1024 n && between 1 8 s)) OutOfRange 0 _ refl
     (bind-other (several n pointPlace (f .next)) _ (several-other n pointPlace (f .next)) (λ ps.
-    bind-other (several (3 * n - 6) lineShape (ps .next)) _ (several-other (3 * n - 6) lineShape (ps .next)) (λ ls.
-    then-other (readEnd (ls .next)) _ (end-other (ls .next)) (lines-judged n s (ls .next .offset) (ls .all))))))
+    bind-other (several (3 * n - 6) (lineShape τ) (ps .next)) _ (several-other (3 * n - 6) (lineShape τ) (ps .next)) (λ ls.
+    then-other (readEnd (ls .next)) _ (end-other (ls .next)) (lines-judged τ n s (ls .next .offset) (ls .all))))))
 
 compare-other : (i : ℕ) (l bs : List ℕ) → Other (compareBytes i l bs)
 compare-other i [] [] = tt
@@ -135,13 +137,13 @@ compare-other i [] (b ∷ bs) = refl
 compare-other i (a ∷ l) [] = refl
 compare-other i (a ∷ l) (b ∷ bs) = goes-other (not (eqb a b)) OtherDrawing i _ refl (compare-other (suc i) l bs)
 
-back-other : (bytes : List ℕ) → Other (orderBack bytes)
+back-other : (τ : Style) (bytes : List ℕ) → Other (orderBack τ bytes)
 unfolding readDrawing
-back-other bytes =
-    bind-other (readDrawing bytes) _
-    (bind-other (judgeDrawing bytes) _ (drawing-judged bytes) (λ d. then-other (compareBytes 0 bytes (drawingBytes d)) _ (compare-other 0 bytes (drawingBytes d)) tt))
+back-other τ bytes =
+    bind-other (readDrawing τ bytes) _
+    (bind-other (judgeDrawing τ bytes) _ (drawing-judged τ bytes) (λ d. then-other (compareBytes 0 bytes (drawingBytes d)) _ (compare-other 0 bytes (drawingBytes d)) tt))
     (λ d. goes-other (ltb (d .k) (d .n)) Unfinished 0 _ refl tt)
 
 -- THE LAW.
-pub never-both : (bytes : List ℕ) (p : ℕ) → orderBack bytes ≡ refused BothMarks p → ⊥
-never-both bytes p h = true≢false (subst Other h (back-other bytes))
+pub never-both : (τ : Style) (bytes : List ℕ) (p : ℕ) → orderBack τ bytes ≡ refused BothMarks p → ⊥
+never-both τ bytes p h = true≢false (subst Other h (back-other τ bytes))

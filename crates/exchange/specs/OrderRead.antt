@@ -7,6 +7,7 @@ use native.Mathlib.Omega.{arith}
 use lib.ListN.{length}
 use lib.Dec.{ltb}
 use borrow.Author.Tests.{ltb-false, ne-eqb, not-false}
+use Rattle.rules.specs.declared.Style.{Style}
 use Rattle.rules.specs.declared.Entry.{Entry}
 use Rattle.rules.specs.declared.Refusal.the-variants.{OutOfRange, BothMarks, OtherStart, ExtraBytes}
 use Rattle.rules.specs.Basics.{if_then_else_, between, snoc, anyOf}
@@ -70,31 +71,31 @@ end-read at u b h =
 -- ---- the points after point 3
 
 -- the records at the cursor are those of the entries that were added
-record RestRead (n s : ℕ) (second third : List Entry) (ess : List (List Entry)) (c : ℕ) (at : Cursor) (e : Drawing) : Type 0 where
+record RestRead (τ : Style) (n s : ℕ) (second third : List Entry) (ess : List (List Entry)) (c : ℕ) (at : Cursor) (e : Drawing) : Type 0 where
   more : List (List Entry)
   count : length more ≡ c
-  built : Built n s second third (ess ++ more) e
+  built : Built τ n s second third (ess ++ more) e
   bytes : at .bytes ≡ pointRecords more
 
-module _ (n s : ℕ) (second third : List Entry) where
+module _ (τ : Style) (n s : ℕ) (second third : List Entry) where
   -- one record before those
-  rest-more : (ess : List (List Entry)) (c : ℕ) (at : Cursor) (f : Found) (e : Drawing) → PointRead at f → RestRead n s second third (snoc ess (saidIn f)) c (f .next) e →
-      RestRead n s second third ess (suc c) at e
+  rest-more : (ess : List (List Entry)) (c : ℕ) (at : Cursor) (f : Found) (e : Drawing) → PointRead at f → RestRead τ n s second third (snoc ess (saidIn f)) c (f .next) e →
+      RestRead τ n s second third ess (suc c) at e
   rest-more ess c at f e p r =
       record {
         more = saidIn f ∷ r .more;
         count = ap suc (r .count);
-        built = subst (λ (l : List (List Entry)). Built n s second third l e) (append-assoc ess (saidIn f ∷ []) (r .more)) (r .built);
+        built = subst (λ (l : List (List Entry)). Built τ n s second third l e) (append-assoc ess (saidIn f ∷ []) (r .more)) (r .built);
         bytes = p .bytes ∙ ap (λ (l : List ℕ). pointRecord (saidIn f) ++ l) (r .bytes);
       }
 
   -- c records and the end, from a built drawing on
-  rest-read : (c : ℕ) (ess : List (List Entry)) (d e : Drawing) (at : Cursor) → Bytes (at .bytes) → Built n s second third ess d → readRest c d at ≡ good e →
-      RestRead n s second third ess c at e
+  rest-read : (c : ℕ) (ess : List (List Entry)) (d e : Drawing) (at : Cursor) → Bytes (at .bytes) → Built τ n s second third ess d → readRest c d at ≡ good e →
+      RestRead τ n s second third ess c at e
   unfolding readRest
   rest-read zero ess d e at b t h =
       let g = followed (readEnd at) (good d) e h in
-      let same : Built n s second third (ess ++ []) e = subst₂ (Built n s second third) (sym (append-nil ess)) (same-value d e (g .last)) t in
+      let same : Built τ n s second third (ess ++ []) e = subst₂ (Built τ n s second third) (sym (append-nil ess)) (same-value d e (g .last)) t in
       record { more = []; count = refl; built = same; bytes = end-read at (g .value) b (g .first) }
   rest-read (suc c) ess d e at b t h =
       let f = bound (readRecord pointEntries at) (λ f. placed (f .place) (addRead d (entriesIn f)) >>= λ e. readRest c e (f .next)) e h in
@@ -143,18 +144,18 @@ first-read f after e h =
     none (w ∷ ws) q = absurd (let z : _≡_ {A = ℕ} 0 1 = cc in omega arith)
 
 -- the records at the cursor are those of a built drawing
-record PointsRead (n s : ℕ) (at : Cursor) (e : Drawing) : Type 0 where
+record PointsRead (τ : Style) (n s : ℕ) (at : Cursor) (e : Drawing) : Type 0 where
   second : List Entry
   third : List Entry
   rest : List (List Entry)
   count : length rest ≡ n - 3
-  built : Built n s second third rest e
+  built : Built τ n s second third rest e
   bytes : at .bytes ≡ pointRecords (every second third rest)
 
 -- three records, the first without an entry, and those of the rest
-points-join : (n s : ℕ) (at : Cursor) (e : Drawing) (f g h : Found) → PointRead at f → PointRead (f .next) g → PointRead (g .next) h → pointsOf (saidIn f) ≡ [] →
-    RestRead n s (saidIn g) (saidIn h) [] (n - 3) (h .next) e → PointsRead n s at e
-points-join n s at e f g h pf pg ph z r =
+points-join : (τ : Style) (n s : ℕ) (at : Cursor) (e : Drawing) (f g h : Found) → PointRead at f → PointRead (f .next) g → PointRead (g .next) h → pointsOf (saidIn f) ≡ [] →
+    RestRead τ n s (saidIn g) (saidIn h) [] (n - 3) (h .next) e → PointsRead τ n s at e
+points-join τ n s at e f g h pf pg ph z r =
     record {
       second = saidIn g;
       third = saidIn h;
@@ -166,7 +167,7 @@ points-join n s at e f g h pf pg ph z r =
     }
 
 -- the records of points 1 to 3, and what follows them
-pub record Three (n s : ℕ) (at : Cursor) (e : Drawing) : Type 0 where
+pub record Three (τ : Style) (n s : ℕ) (at : Cursor) (e : Drawing) : Type 0 where
   pub f : Found
   pub g : Found
   pub h : Found
@@ -179,11 +180,11 @@ pub record Three (n s : ℕ) (at : Cursor) (e : Drawing) : Type 0 where
   pub points-f : pointsOf (saidIn f) ≡ []
   pub points-g : pointsOf (saidIn g) ≡ 1 ∷ []
   pub points-h : pointsOf (saidIn h) ≡ 1 ∷ 2 ∷ []
-  pub last : readRest (n - 3) (startWith n s (saidIn g) (saidIn h)) (h .next) ≡ good e
+  pub last : readRest (n - 3) (startWith τ n s (saidIn g) (saidIn h)) (h .next) ≡ good e
 
-pub three-read : (n s : ℕ) (at : Cursor) (e : Drawing) → readPoints n s at ≡ good e → Three n s at e
+pub three-read : (τ : Style) (n s : ℕ) (at : Cursor) (e : Drawing) → readPoints τ n s at ≡ good e → Three τ n s at e
 unfolding readPoints
-three-read n s at e q =
+three-read τ n s at e q =
     let f = bound (readRecord pointEntries at) _ e q in
     let tf = first-read (f .value) _ e (f .last) in
     let g = bound (readRecord pointEntries (f .value .next)) _ e (tf .last) in
@@ -203,20 +204,20 @@ three-read n s at e q =
       points-f = tf .points;
       points-g = tg .points;
       points-h = th .points;
-      last = ap₂ (λ (a b : List Entry). readRest (n - 3) (startWith n s a b) (h .value .next)) (sym (tg .given)) (sym (th .given)) ∙ th .last;
+      last = ap₂ (λ (a b : List Entry). readRest (n - 3) (startWith τ n s a b) (h .value .next)) (sym (tg .given)) (sym (th .given)) ∙ th .last;
     }
 
 -- the records of all points
-points-read : (n s : ℕ) (at : Cursor) (e : Drawing) → Bytes (at .bytes) → readPoints n s at ≡ good e → PointsRead n s at e
-points-read n s at e b q =
-    let t = three-read n s at e q in
+points-read : (τ : Style) (n s : ℕ) (at : Cursor) (e : Drawing) → Bytes (at .bytes) → readPoints τ n s at ≡ good e → PointsRead τ n s at e
+points-read τ n s at e b q =
+    let t = three-read τ n s at e q in
     let pf = point-read at (t .f) b (t .first) (t .one-f) in
     let pg = point-read (t .f .next) (t .g) (pf .rest) (t .second) (t .one-g) in
     let ph = point-read (t .g .next) (t .h) (pg .rest) (t .third) (t .one-h) in
     let second = saidIn (t .g) in
     let third = saidIn (t .h) in
-    let r = rest-read n s second third (n - 3) [] (startWith n s second third) e (t .h .next) (ph .rest) (begun (t .points-g) (t .points-h)) (t .last) in
-    points-join n s at e (t .f) (t .g) (t .h) pf pg ph (t .points-f) r
+    let r = rest-read τ n s second third (n - 3) [] (startWith τ n s second third) e (t .h .next) (ph .rest) (begun (t .points-g) (t .points-h)) (t .last) in
+    points-join τ n s at e (t .f) (t .g) (t .h) pf pg ph (t .points-f) r
 
 -- ---- the header and the scale
 
@@ -253,25 +254,26 @@ scale-read at c b h = go (marked scaleShape at) h
 -- ---- the file
 
 -- the file of n, s and the points that were read is what the drawing writes
-file-read : (n s : ℕ) (at : Cursor) (o : List ℕ) (d : Drawing) → (3 ≤ n) × (n ≤ 1024) → (1 ≤ s) × (s ≤ 8) → PointsRead n s at d →
-    o ≡ written orderHead (n ∷ []) ++ (orderScale s ++ at .bytes) → Whole d × (writeOrder d ≡ o)
-file-read n s at o d bn bs p e =
+file-read : (τ : Style) (n s : ℕ) (at : Cursor) (o : List ℕ) (d : Drawing) → (3 ≤ n) × (n ≤ 1024) → (1 ≤ s) × (s ≤ 8) → PointsRead τ n s at d →
+    o ≡ written orderHead (n ∷ []) ++ (orderScale s ++ at .bytes) → Whole d × (writeOrder d ≡ o) × (d .style ≡ τ)
+file-read τ n s at o d bn bs p e =
     let t = listed (p .built) in
     let full : d .k ≡ d .n = omega (arith, t .is-k, t .is-n, p .count, bn .0) in (
       whole-so bn bs (p .built) (p .count),
       write-built (p .built) full ∙ ap (λ (l : List ℕ). written orderHead (n ∷ []) ++ (orderScale s ++ l)) (sym (p .bytes)) ∙ sym e,
+      t .is-style,
     )
 
 -- an accepted order file is the one that its drawing writes
-pub order-read : (o : List ℕ) (d : Drawing) → Bytes o → readOrder o ≡ good d → Whole d × (writeOrder d ≡ o)
+pub order-read : (τ : Style) (o : List ℕ) (d : Drawing) → Bytes o → readOrder τ o ≡ good d → Whole d × (writeOrder d ≡ o) × (d .style ≡ τ)
 unfolding readOrder
-order-read o d b h =
+order-read τ o d b h =
     let f = bound (readRecord orderHead (fromStart o)) _ d h in
     let n = first (f .value) in
     let t = reread orderHead (fromStart o) (f .value) b (f .first) in
     let g = tested (not (between 3 1024 n)) OutOfRange 0 _ d (f .last) in
-    let c = bound (readScale (f .value .next)) (λ c. readPoints n (c .s) (c .next)) d (g .last) in
+    let c = bound (readScale (f .value .next)) (λ c. readPoints τ n (c .s) (c .next)) d (g .last) in
     let z = scale-read (f .value .next) (c .value) (t .rest) (c .first) in
-    let p = points-read n (c .value .s) (c .value .next) d (z .rest) (c .last) in
-    file-read n (c .value .s) (c .value .next) o d (in-range 3 1024 n (not-false _ (g .passed))) (z .low, z .high) p
+    let p = points-read τ n (c .value .s) (c .value .next) d (z .rest) (c .last) in
+    file-read τ n (c .value .s) (c .value .next) o d (in-range 3 1024 n (not-false _ (g .passed))) (z .low, z .high) p
     (t .bytes ∙ ap₂ (λ (ws l : List ℕ). written orderHead ws ++ l) (single (f .value .words) (t .fits)) (z .bytes))

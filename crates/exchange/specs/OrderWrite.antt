@@ -9,6 +9,7 @@ use lib.ListN.{length, getD}
 use lib.Dec.{eqb}
 use borrow.Author.Tests.{le-leb, eqb-true, eqb-false}
 use Rattle.rules.specs.declared.Line.{Line}
+use Rattle.rules.specs.declared.Style.{Style}
 use Rattle.rules.specs.declared.Entry.{Entry}
 use Rattle.rules.specs.declared.Refusal.the-variants.{OutOfRange}
 use Rattle.rules.specs.Basics.{between}
@@ -53,10 +54,10 @@ points-written (es ∷ ess) p ls h =
     ap₂ (λ (ws l : List ℕ). written pointEntries ws ++ l) b c
 
 -- a finished drawing writes the file of its entries
-pub write-built : {n s : ℕ} {second third : List Entry} {rest : List (List Entry)} {d : Drawing} → Built n s second third rest d → d .k ≡ d .n →
+pub write-built : {τ : Style} {n s : ℕ} {second third : List Entry} {rest : List (List Entry)} {d : Drawing} → Built τ n s second third rest d → d .k ≡ d .n →
     writeOrder d ≡ orderBytes n s (every second third rest)
 unfolding writeOrder
-write-built {n} {s} {second} {third} {rest} {d} b full =
+write-built {τ} {n} {s} {second} {third} {rest} {d} b full =
     let t = listed b in
     let ess : List (List Entry) = every second third rest in
     let count : d .n ≡ length ess = omega (arith, t .is-k) in
@@ -87,10 +88,10 @@ start-passes : (wanted : List ℕ) (es : List Entry) (place : ℕ) → Fitting e
 start-passes wanted es place fits h = rw (entries-back es fits, given-one es, points-given es, h, same-self wanted)
 
 -- the records of all points
-points-back : (n s : ℕ) (second third : List Entry) (rest : List (List Entry)) (d : Drawing) → Replayed n s second third rest d → n ≡ 3 + length rest → (o : ℕ) →
-    readPoints n s (record { offset = o; bytes = pointRecords (every second third rest) }) ≡ good d
+points-back : (τ : Style) (n s : ℕ) (second third : List Entry) (rest : List (List Entry)) (d : Drawing) → Replayed τ n s second third rest d → n ≡ 3 + length rest → (o : ℕ) →
+    readPoints τ n s (record { offset = o; bytes = pointRecords (every second third rest) }) ≡ good d
 unfolding readPoints
-points-back n s second third rest d r count o =
+points-back τ n s second third rest d r count o =
     let a = fitting-second second (r .second-points) in
     let b = fitting-third third (r .third-points) in
     let o2 : ℕ = o + length (pointRecord []) in
@@ -130,7 +131,7 @@ scale-back s low high o es rest = go (eqb s 1) refl
         }
 
 -- the order file that is written gives the drawing back
-pub order-written : (d : Drawing) → Whole d → readOrder (writeOrder d) ≡ good d
+pub order-written : (d : Drawing) → Whole d → readOrder (d .style) (writeOrder d) ≡ good d
 unfolding readOrder
 order-written d h =
     let t = listed (h .reached .built) in
@@ -144,4 +145,4 @@ order-written d h =
     (record-back orderHead 0 (d .n ∷ []) (orderScale (d .s) ++ points) refl) ∙
     goes _ OutOfRange 0 _ inside ∙
     binds (readScale (record { offset = 4; bytes = orderScale (d .s) ++ points })) _ _ (c .read) ∙
-    points-back (d .n) (d .s) (h .reached .second) (h .reached .third) (h .reached .rest) d r count (c .next))
+    points-back (d .style) (d .n) (d .s) (h .reached .second) (h .reached .third) (h .reached .rest) d r count (c .next))

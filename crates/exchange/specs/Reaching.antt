@@ -4,6 +4,7 @@ use mathlib.Core.Path.{refl}
 use mathlib.Core.List.{List, [], _∷_}
 use native.Mathlib.Omega.{arith}
 use mathlib.Core.Path.{_≡_}
+use Rattle.rules.specs.declared.Style.{Style}
 use Rattle.rules.specs.declared.Kind.the-variants.{Plain}
 use Rattle.rules.specs.declared.Entry.{Entry}
 use Rattle.rules.specs.Refusals.{good}
@@ -21,9 +22,9 @@ second = record { point = 1; kind = Plain } ∷ []
 abbrev third : List Entry
 third = record { point = 1; kind = Plain } ∷ record { point = 2; kind = Plain } ∷ []
 
-pub reached-opening : (n : ℕ) → 3 ≤ n → n ≤ 1024 → Reached (opening n)
-reached-opening n low high =
-    let b : Built n 1 second third [] (opening n) = begun refl refl in
+pub reached-opening : (τ : Style) (n : ℕ) → 3 ≤ n → n ≤ 1024 → Reached (opening τ n)
+reached-opening τ n low high =
+    let b : Built τ n 1 second third [] (opening τ n) = begun refl refl in
     reached-so (low, high) (omega arith, omega arith) b
 
 reached-added : (d e : Drawing) (es : List Entry) → Reached d → addEntries d es ≡ good e → Reached e
@@ -36,5 +37,5 @@ reached-after d r calls = after-keeps Reached reached-added d r calls
 pub reached-left : (d : Drawing) → Reached d → (call : List ℕ) → Reached (left d (add d call))
 reached-left d r call = reached-after d r (call ∷ [])
 
-pub reached-drawn : (n : ℕ) → 3 ≤ n → n ≤ 1024 → (calls : List (List ℕ)) → Reached (drawn n calls)
-reached-drawn n low high calls = reached-after (opening n) (reached-opening n low high) calls
+pub reached-drawn : (τ : Style) (n : ℕ) → 3 ≤ n → n ≤ 1024 → (calls : List (List ℕ)) → Reached (drawn τ n calls)
+reached-drawn τ n low high calls = reached-after (opening τ n) (reached-opening τ n low high) calls

@@ -4,6 +4,7 @@ use mathlib.Core.Path.{_≡_, refl, ap}
 use mathlib.Core.List.{List, [], _∷_, map}
 use native.Mathlib.Omega.{arith}
 use lib.ListN.{length, getD}
+use Rattle.rules.specs.declared.Style.{Style}
 use Rattle.rules.specs.declared.Entry.{Entry}
 use Rattle.rules.specs.declared.Reading.the-variants.{Given}
 use Rattle.rules.specs.Basics.{snoc}
@@ -65,17 +66,17 @@ replays-more es none a h = more es a h none
 replays-more es (more fs b g r) a h = more fs b g (replays-more es r a h)
 
 -- a built drawing stands, began as files begin, and is built so
-pub record Replayed (n s : ℕ) (second third : List Entry) (rest : List (List Entry)) (d : Drawing) : Type 0 where
+pub record Replayed (τ : Style) (n s : ℕ) (second third : List Entry) (rest : List (List Entry)) (d : Drawing) : Type 0 where
   pub standing : Standing d
   pub second-points : pointsOf second ≡ 1 ∷ []
   pub third-points : pointsOf third ≡ 1 ∷ 2 ∷ []
-  pub replays : Replays (startWith n s second third) rest d
+  pub replays : Replays (startWith τ n s second third) rest d
 
 -- every built drawing is replayed
-pub replayed : {n s : ℕ} {second third : List Entry} {rest : List (List Entry)} {d : Drawing} → 3 ≤ n → n ≤ 1024 → Built n s second third rest d →
-    Replayed n s second third rest d
-replayed {n} {s} {second} {third} low high (begun a b) =
-    record { standing = standing-start n s (kindAt 0 second) (kindAt 0 third) (kindAt 1 third) low high; second-points = a; third-points = b; replays = none }
+pub replayed : {τ : Style} {n s : ℕ} {second third : List Entry} {rest : List (List Entry)} {d : Drawing} → 3 ≤ n → n ≤ 1024 → Built τ n s second third rest d →
+    Replayed τ n s second third rest d
+replayed {τ} {n} {s} {second} {third} low high (begun a b) =
+    record { standing = standing-start τ n s (kindAt 0 second) (kindAt 0 third) (kindAt 1 third) low high; second-points = a; third-points = b; replays = none }
 replayed low high (added {d = d} {e = e} es b h) =
     let r = replayed low high b in
     let fits = fitting-added d e es (r .standing) h in

@@ -5,9 +5,9 @@ use mathlib.Core.Logic.{_≢_, inl, inr}
 use native.Mathlib.Omega.{arith}
 use native.Mathlib.Decide.{decLt, ℕ-discrete}
 use Rattle.rules.specs.declared.Place.{Place}
-use Rattle.net.specs.Side.{strict, Side, rt, lf, op, Which, which, same, other}
+use Rattle.net.specs.Side.{Side, rt, lf, op, Which, which, same, other}
 use Rattle.net.specs.Net.{Net, BendKind, side, middle, flat}
-use Rattle.net.specs.Inv.{Fits, port, within, plain, Slope, Reach, Inv}
+use Rattle.net.specs.Inv.{Bent, port, within, plain, Slope, Reach, Inv}
 use Rattle.net.specs.Bend.{pt, turn, spot, start, bend, end}
 use Rattle.net.specs.Shared.{Came, landed, based, came-once}
 use Rattle.net.specs.Degs.{Degs, deg}
@@ -72,7 +72,7 @@ module _ {g : Net} (n : Inv g) where
             }
       ]
 
-  start-aim : (e : ℕ) → e < g .L → (κ : BendKind) → g .kind e ≡ κ → Fits strict g (g .u e) (g .v e) κ → Aimed g (g .u e) e (turn g (g .u e) (g .v e) κ) (pt g (g .v e))
+  start-aim : (e : ℕ) → e < g .L → (κ : BendKind) → g .kind e ≡ κ → Bent g (g .u e) (g .v e) κ → Aimed g (g .u e) e (turn g (g .u e) (g .v e) κ) (pt g (g .v e))
   start-aim e el (side rt j) k (port f b c) =
       record {
         to = turn g (g .u e) (g .v e) (side rt j);
@@ -146,7 +146,7 @@ module _ {g : Net} (n : Inv g) where
             }
       ]
 
-  end-aim : (e : ℕ) → e < g .L → (κ : BendKind) → g .kind e ≡ κ → Fits strict g (g .u e) (g .v e) κ → Aimed g (g .v e) e (turn g (g .u e) (g .v e) κ) (pt g (g .u e))
+  end-aim : (e : ℕ) → e < g .L → (κ : BendKind) → g .kind e ≡ κ → Bent g (g .u e) (g .v e) κ → Aimed g (g .v e) e (turn g (g .u e) (g .v e) κ) (pt g (g .u e))
   end-aim e el (side rt j) k (port f b c) = right-aim e j k c (n .slopes .slope rt j e el k)
   end-aim e el (side lf j) k (port f b c) = left-aim e j k c (n .slopes .slope lf j e el k)
   end-aim e el (middle j) k (within f b c) =

@@ -2,7 +2,8 @@
 use Prim.Native.Nat.{ℕ, _+_, _<_}
 use mathlib.Core.Path.{_≡_, ap}
 use native.Mathlib.Omega.{arith}
-use Rattle.net.specs.Side.{Tie, at, at-in}
+use Rattle.rules.specs.declared.Style.{Style}
+use Rattle.net.specs.Side.{at, at-in}
 use Rattle.net.specs.Net.{Net}
 use Rattle.net.specs.Inv.{Points, Lines, Alike}
 use Rattle.net.specs.Adds.{Line, old, tip, rib, Adds}
@@ -10,12 +11,12 @@ use Rattle.net.specs.Adds.{Line, old, tip, rib, Adds}
 pub other-way : {g : Net} → Alike g → (e f : ℕ) → e < g .L → f < g .L → g .u e ≡ g .v f → g .v e ≡ g .u f → ⊥
 other-way b e f el fl p q = omega (arith, b .up e el, b .up f fl)
 
-module _ {τ : Tie} {g g′ : Net} {l r : ℕ} (h : Points τ g) (n : Lines τ g) (a : Adds τ g g′ l r) where
+module _ {τ : Style} {g g′ : Net} {l r : ℕ} (h : Points τ g) (n : Lines τ g) (a : Adds τ g g′ l r) where
   data Age (e : ℕ) : Type 0 where
     was : e < g .L → g′ .u e ≡ g .u e → g′ .v e ≡ g .v e → Age e
     new : (i : ℕ) → i < g .m → e + l ≡ g .L + i → g′ .u e ≡ g .w i → g′ .v e ≡ g .k → Age e
 
-  age : (e : ℕ) → Line g g′ l r (a .port) e → Age e
+  age : (e : ℕ) → Line τ g g′ l r (a .port) e → Age e
   age e (old el eu ev ek) = was el eu ev
   age e (tip s i eu ev ek) = new (at s l r) (omega (arith, at-in s (a .lr), a .rm)) i eu ev
   age e (rib i li ir en eu ev ek) = new i (omega (arith, a .rm)) en eu ev

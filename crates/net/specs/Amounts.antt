@@ -1,5 +1,5 @@
 -- F1 to F3 from the amounts, for both drawings: the columns from l + 1 on move by s₁, those from r on by s₂ + s₃ more, s₁ and s₂ at least 1,
--- and the new point has x - y off more than w l, x + y off less than w r.
+-- and the new point has x - y `inset` more than w l, x + y `inset` less than w r.
 use Prim.Native.Nat.{ℕ, suc, _+_, _<_, _≤_}
 use mathlib.Core.Path.{_≡_, ap}
 use mathlib.Core.Bool.{cond}
@@ -7,7 +7,9 @@ use native.Mathlib.Omega.{arith}
 use native.Mathlib.Decide.{decLt, decLe}
 use lib.Dec.{leb}
 use borrow.Author.Tests.{le-leb, lt-leb}
-use Rattle.net.specs.Side.{Tie, off, off-most, Side, rt, lf, Past, at}
+use Rattle.rules.specs.declared.Style.{Style}
+use Rattle.rules.specs.Styles.{inset}
+use Rattle.net.specs.Side.{inset-most, Side, rt, lf, Past, at}
 use Rattle.net.specs.Net.{Net, Beyond, Next, beyond-a, beyond-b, beyond-tie, beyond-up}
 use Rattle.net.specs.Inv.{Points}
 use Rattle.net.specs.Adds.{Places}
@@ -80,17 +82,17 @@ module _ (l r s₁ s₂ : ℕ) (lr : l < r) (one : 0 < s₁) (two : 0 < s₂) wh
       go (all a e) = omega arith
 
 -- s₂ is the sum of the amounts of steps 2 and 3
-pub record Amounts (τ : Tie) (g g′ : Net) (l r s₁ s₂ : ℕ) : Type 0 where
+pub record Amounts (τ : Style) (g g′ : Net) (l r s₁ s₂ : ℕ) : Type 0 where
   pub lr : l < r
   pub rm : r < g .m
   pub one : 0 < s₁
   pub two : 0 < s₂
   pub x′ : (p : ℕ) → p < g .k → g′ .x p ≡ g .x p + moves l r s₁ s₂ (g .col p)
   pub y′ : (p : ℕ) → p < g .k → g′ .y p ≡ g .y p
-  pub new-a : g′ .x (g .k) + g .y (g .w l) ≡ g .x (g .w l) + off τ + g′ .y (g .k)
-  pub new-b : g′ .x (g .k) + g′ .y (g .k) + off τ ≡ g′ .x (g .w r) + g .y (g .w r)
+  pub new-a : g′ .x (g .k) + g .y (g .w l) ≡ g .x (g .w l) + inset τ + g′ .y (g .k)
+  pub new-b : g′ .x (g .k) + g′ .y (g .k) + inset τ ≡ g′ .x (g .w r) + g .y (g .w r)
 
-module _ {τ : Tie} {g g′ : Net} {l r s₁ s₂ : ℕ} (h : Points τ g) (a : Amounts τ g g′ l r s₁ s₂) where
+module _ {τ : Style} {g g′ : Net} {l r s₁ s₂ : ℕ} (h : Points τ g) (a : Amounts τ g g′ l r s₁ s₂) where
   -- where a boundary point of g stands in g′
   pub x-on : (i : ℕ) → i < g .m → g′ .x (g .w i) ≡ g .x (g .w i) + moves l r s₁ s₂ i
   x-on i im = let o = h .on i im in omega (arith, a .x′ (g .w i) (o .0), ap (moves l r s₁ s₂) (o .1))
@@ -114,15 +116,15 @@ module _ {τ : Tie} {g g′ : Net} {l r s₁ s₂ : ℕ} (h : Points τ g) (a : 
       yr : g′ .y (g .w r) ≡ g .y (g .w r)
       yr = y-on r (a .rm)
 
-      up-l : (i : ℕ) → l < i → i < g .m → g .x (g .w l) + off τ + g .y (g .w i) ≤ g .x (g .w i) + g .y (g .w l)
+      up-l : (i : ℕ) → l < i → i < g .m → g .x (g .w l) + inset τ + g .y (g .w i) ≤ g .x (g .w i) + g .y (g .w l)
       up-l i li im = beyond-a (chain h l i li im .0)
 
-      up-r : (i : ℕ) → i < r → g .x (g .w i) + g .y (g .w i) + off τ ≤ g .x (g .w r) + g .y (g .w r)
+      up-r : (i : ℕ) → i < r → g .x (g .w i) + g .y (g .w i) + inset τ ≤ g .x (g .w r) + g .y (g .w r)
       up-r i ir = beyond-b (chain h i r ir (a .rm) .1)
 
       over : (s : Side) → g .y (g .w (at s l r)) < g′ .y (g .k)
-      over rt = omega (arith, a .new-a, a .new-b, xr, up-r l (a .lr), off-most τ, a .one, a .two)
-      over lf = omega (arith, a .new-a, a .new-b, xr, up-l r (a .lr) (a .rm), off-most τ, a .one, a .two)
+      over rt = omega (arith, a .new-a, a .new-b, xr, up-r l (a .lr), inset-most τ, a .one, a .two)
+      over lf = omega (arith, a .new-a, a .new-b, xr, up-l r (a .lr) (a .rm), inset-most τ, a .one, a .two)
 
       next : (s : Side) → Next τ s g′ (g .w (at s l r)) (g .k)
       next rt = omega (arith, xl, yl, a .new-a)

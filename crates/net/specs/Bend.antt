@@ -5,9 +5,9 @@ use native.Mathlib.Omega.{arith}
 use native.Mathlib.Decide.{decLe}
 use Rattle.rules.specs.declared.Place.{Place}
 use Rattle.plane.specs.Apart.{Fun, up, dn, Lt, Le, fa, fy}
-use Rattle.net.specs.Side.{strict, Side, rt, lf}
+use Rattle.net.specs.Side.{Side, rt, lf}
 use Rattle.net.specs.Net.{Net, BendKind, side, middle, flat}
-use Rattle.net.specs.Inv.{Fits, port, within, plain, Slope, Reach, Inv}
+use Rattle.net.specs.Inv.{Bent, port, within, plain, Slope, Reach, Inv}
 
 abbrev pub pt : Net → ℕ → Place
 pt g p = record { x = g .x p; y = g .y p }
@@ -79,7 +79,7 @@ module _ {g : Net} (n : Inv g) where
   mid-between p q i b f (to lf) = back (omega arith) (omega arith)
   mid-between p q i b f high = there (omega arith) (omega arith)
 
-  kind-between : (e : ℕ) → e < g .L → (κ : BendKind) → g .kind e ≡ κ → Fits strict g (g .u e) (g .v e) κ → (w : Way) →
+  kind-between : (e : ℕ) → e < g .L → (κ : BendKind) → g .kind e ≡ κ → Bent g (g .u e) (g .v e) κ → (w : Way) →
       Between (fun w) (pt g (g .u e)) (turn g (g .u e) (g .v e) κ) (pt g (g .v e))
   kind-between e el (side s j) q (port f b c) w = side-between s (g .u e) (g .v e) j c (n .slopes .slope s j e el q) w
   kind-between e el (middle i) q (within c b b′) w =

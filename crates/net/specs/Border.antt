@@ -4,12 +4,14 @@ use mathlib.Core.Path.{_≡_, sym, ap, _∙_}
 use mathlib.Core.Logic.{_≢_, _⊎_, inl, inr}
 use native.Mathlib.Omega.{arith}
 use native.Mathlib.Decide.{decLt, ℕ-discrete}
-use Rattle.net.specs.Side.{Tie, strict, Side, rt, lf, op, at}
-use Rattle.net.specs.Net.{Net, side, Next}
+use Rattle.rules.specs.declared.Style.{Style}
+use Rattle.rules.specs.declared.Style.the-variants.{OneBend}
+use Rattle.net.specs.Side.{Side, rt, lf, op, at}
+use Rattle.net.specs.Net.{Net, sideKind, Next}
 use Rattle.net.specs.Inv.{Points, Lines, Link, Corners, Core, Border}
 use Rattle.net.specs.Adds.{Adds, Rigid, Exact}
 use Rattle.net.specs.Walls.{tip-col, by-point, w-low, w-new, w-high}
-use Rattle.net.specs.Ports.{stays, tips}
+use Rattle.net.specs.BendKinds.{stays, tips}
 
 -- an end of a link is not an end of the run from which a new port leaves
 off-tip : (s : Side) (l r j : ℕ) → l < r → (suc j ≤ l) ⊎ (r ≤ j) → at s j (suc j) ≢ at s l r
@@ -18,7 +20,7 @@ off-tip rt l r j lr (inr h) = omega arith
 off-tip lf l r j lr (inl h) = omega arith
 off-tip lf l r j lr (inr h) = omega arith
 
-module _ {τ : Tie} {g g′ : Net} {l r : ℕ} (h : Points τ g) (n : Lines τ g) (a : Adds τ g g′ l r) (x : Rigid τ g g′ l r a) where
+module _ {τ : Style} {g g′ : Net} {l r : ℕ} (h : Points τ g) (n : Lines τ g) (a : Adds τ g g′ l r) (x : Rigid τ g g′ l r a) where
   -- two neighbours that stay
   still-next : (s : Side) (p q : ℕ) → p < g .k → q < g .k → a .σ (g .col p) ≡ a .σ (g .col q) → Next τ s g p q → Next τ s g′ p q
   still-next rt p q pk qk e b = omega (arith, a .x′ p pk, a .x′ q qk, a .y′ p pk, a .y′ q qk)
@@ -43,7 +45,7 @@ module _ {τ : Tie} {g g′ : Net} {l r : ℕ} (h : Points τ g) (n : Lines τ g
 
   old-link : (i j : ℕ) → suc j < g .m → (suc j ≤ l) ⊎ (r ≤ j) → g′ .w i ≡ g .w j → g′ .w (suc i) ≡ g .w (suc j) → Link τ g j → Link τ g′ i
   old-link i j jm b p q k =
-      let t = stays h n a (k .e) (k .el) in
+      let t = stays h a (k .e) (k .el) in
       let z = w-at (k .s) i j p q in
       let z′ = w-at (op (k .s)) i j p q in
       let o = h .on (at (k .s) j (suc j)) (in-m (k .s) j jm) in
@@ -53,7 +55,7 @@ module _ {τ : Tie} {g g′ : Net} {l r : ℕ} (h : Points τ g) (n : Lines τ g
         s = k .s;
         e = k .e;
         el = t .0;
-        kind = t .1 ∙ k .kind ∙ ap (side (k .s)) (sym (ap (g′ .d (k .s)) z ∙ d));
+        kind = t .1 ∙ k .kind ∙ ap (sideKind τ (k .s)) (sym (ap (g′ .d (k .s)) z ∙ d));
         u = t .2 ∙ k .u ∙ sym z;
         v = t .3 ∙ k .v ∙ sym z′;
         next = rw (z, z′) (still-next (k .s) _ _ (o .0) (o′ .0) (rw (o .1, o′ .1) (ends-move (k .s) j b)) (k .next));
@@ -61,12 +63,12 @@ module _ {τ : Tie} {g g′ : Net} {l r : ℕ} (h : Points τ g) (n : Lines τ g
 
   new-link : (s : Side) (i : ℕ) → g′ .w (at s i (suc i)) ≡ g .w (at s l r) → g′ .w (at (op s) i (suc i)) ≡ g .k → Link τ g′ i
   new-link s i p q =
-      let t = tips h n a s in
+      let t = tips h a s in
       record {
         s = s;
         e = t .0;
         el = t .1;
-        kind = t .2 ∙ ap (side s) (sym (ap (g′ .d s) p ∙ a .d-tip s));
+        kind = t .2 ∙ ap (sideKind τ s) (sym (ap (g′ .d s) p ∙ a .d-tip s));
         u = t .3 ∙ sym p;
         v = t .4 ∙ sym q;
         next = rw (p, q) (x .step s);
@@ -120,7 +122,7 @@ module _ {τ : Tie} {g g′ : Net} {l r : ℕ} (h : Points τ g) (n : Lines τ g
         links = links′ (b .links);
       }
 
-pub border′ : {g g′ : Net} {l r : ℕ} → Core strict g → (a : Adds strict g g′ l r) → Exact g g′ l r a → Border g → Border g′
+pub border′ : {g g′ : Net} {l r : ℕ} → Core OneBend g → (a : Adds OneBend g g′ l r) → Exact g g′ l r a → Border g → Border g′
 border′ c a x b =
     let z = x-last (c .points) (c .lines) a (x .rig) (c .corners) in
     record { width = omega (arith, b .width, x .most, a .k′); least = omega (arith, b .least) }

@@ -1,6 +1,6 @@
 -- Both drawings: what they keep outlives the step.
 use Prim.Native.Nat.{ℕ}
-use Rattle.net.specs.Side.{Tie}
+use Rattle.rules.specs.declared.Style.{Style}
 use Rattle.net.specs.Net.{Net}
 use Rattle.net.specs.Inv.{Core}
 use Rattle.net.specs.Adds.{Adds, Rigid, Owning}
@@ -10,7 +10,7 @@ use Rattle.net.specs.Owners.{owners′}
 use Rattle.net.specs.Border.{corners′}
 use Rattle.net.specs.Alike.{alike′}
 
-pub core′ : {τ : Tie} {g g′ : Net} {l r : ℕ} → Core τ g → (a : Adds τ g g′ l r) → Rigid τ g g′ l r a → Owning g g′ l r → Core τ g′
+pub core′ : {τ : Style} {g g′ : Net} {l r : ℕ} → Core τ g → (a : Adds τ g g′ l r) → Rigid τ g g′ l r a → Owning g g′ l r → Core τ g′
 core′ c a x o =
     record {
       points = points′ (c .points) a;

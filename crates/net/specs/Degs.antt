@@ -7,12 +7,13 @@ use native.Mathlib.Nat.{add-suc, add-zero}
 use native.Mathlib.Decide.{decLt, ℕ-discrete}
 use lib.Dec.{eqb}
 use borrow.Author.Tests.{eq-eqb}
-use Rattle.net.specs.Side.{strict, Side, at}
+use Rattle.rules.specs.declared.Style.the-variants.{OneBend}
+use Rattle.net.specs.Side.{Side, at}
 use Rattle.net.specs.Net.{Net}
 use Rattle.net.specs.Inv.{Points, Lines}
 use Rattle.net.specs.Adds.{Line, old, tip, rib, Adds, Bends}
 use Rattle.net.specs.Walls.{by-point}
-use Rattle.net.specs.Ports.{stays, tips}
+use Rattle.net.specs.BendKinds.{stays, tips}
 
 unfoldable pub tally : (ℕ → ℕ) → ℕ → ℕ
 tally f zero = 0
@@ -65,13 +66,13 @@ hit-v : (g : Net) (p e : ℕ) → g .v e ≡ p → 0 < hits g p e
 unfolding hits
 hit-v g p e q = simp (eq-eqb (g .v e) p q) (omega arith)
 
-module _ {g g′ : Net} {l r : ℕ} (h : Points strict g) (n : Lines strict g) (a : Adds strict g g′ l r) where
+module _ {g g′ : Net} {l r : ℕ} (h : Points OneBend g) (n : Lines OneBend g) (a : Adds OneBend g g′ l r) where
   L-is : g′ .L ≡ g .L + (r - l + 1)
   L-is = omega (arith, a .L′, a .lr)
 
   hits-old : (p e : ℕ) → e < g .L → hits g p e ≤ hits g′ p e
   unfolding hits
-  hits-old p e el = let t = stays h n a e el in rw (t .2, t .3) (omega arith)
+  hits-old p e el = let t = stays h a e el in rw (t .2, t .3) (omega arith)
 
   deg-old : (p : ℕ) → deg g p ≤ tally (hits g′ p) (g .L)
   unfolding deg
@@ -84,7 +85,7 @@ module _ {g g′ : Net} {l r : ℕ} (h : Points strict g) (n : Lines strict g) (
   new-e : (s : Side) (e : ℕ) → e < g′ .L → g′ .v e ≡ g .k → g .L ≤ e
   new-e s e el q =
       elim (decLt e (g .L)) [
-        | yes b ↦ absurd (omega (arith, stays h n a e b .3, n .ends e b .1))
+        | yes b ↦ absurd (omega (arith, stays h a e b .3, n .ends e b .1))
         | no b ↦ omega arith
       ]
 
@@ -92,7 +93,7 @@ module _ {g g′ : Net} {l r : ℕ} (h : Points strict g) (n : Lines strict g) (
   unfolding deg
   deg-tip s =
       let p = g .w (at s l r) in
-      let t = tips h n a s in
+      let t = tips h a s in
       omega (
         arith,
         deg-old p,
@@ -100,7 +101,7 @@ module _ {g g′ : Net} {l r : ℕ} (h : Points strict g) (n : Lines strict g) (
         ap (tally (hits g′ p)) L-is,
       )
 
-  new-v : (e : ℕ) → g .L ≤ e → Line g g′ l r (a .port) e → g′ .v e ≡ g .k
+  new-v : (e : ℕ) → g .L ≤ e → Line OneBend g g′ l r (a .port) e → g′ .v e ≡ g .k
   new-v e b (old el eu ev ek) = absurd (omega arith)
   new-v e b (tip t i eu ev ek) = ev
   new-v e b (rib i li ir en eu ev ek) = ev

@@ -7,16 +7,18 @@ use native.Mathlib.Omega.{arith}
 use Rattle.rules.specs.declared.Place.{Place}
 use Rattle.rules.specs.Meeting.{meet}
 use Rattle.plane.specs.Apart.{Fun, Lt, apart, apart-swap}
-use Rattle.net.specs.Side.{strict, rt, lf}
+use Rattle.rules.specs.declared.Style.the-variants.{OneBend}
+use Rattle.net.specs.Side.{rt, lf}
 use Rattle.net.specs.Net.{Net, Clear, beside, above}
 use Rattle.net.specs.Inv.{Inv}
 use Rattle.net.specs.Bend.{pt, Spot, start, end, spot, Way, to, high, fun, all-lt, all-gt}
+use Rattle.net.specs.Parting.{EndsApart}
 
 -- by functions F, z beats p and q in one of the three ways
 abbrev pub Wins : (Way → Fun) → Place → Place → Place → Type 0
 Wins F p q z = (w : Way) × Lt (F w) p z × Lt (F w) q z
 
-clear-way : {g : Net} {p q z : ℕ} → Clear strict g p q z → Wins fun (pt g p) (pt g q) (pt g z)
+clear-way : {g : Net} {p q z : ℕ} → Clear OneBend g p q z → Wins fun (pt g p) (pt g q) (pt g z)
 clear-way (beside rt c c′ b b′) = (to rt, omega arith, omega arith)
 clear-way (beside lf c c′ b b′) = (to lf, omega arith, omega arith)
 clear-way (above b b′) = (high, omega arith, omega arith)
@@ -82,9 +84,7 @@ module _ {g : Net} (n : Inv g) where
       Lt (fun w) (spot g e start) (spot g f end) → Lt (fun w) (spot g e end) (spot g f end) → (i j : Spot) → Lt (fun w) (spot g e i) (spot g f j)
   spread e f el fl w b c b′ c′ i j = all-gt n f fl w (spot g e i) (all-lt n e el w _ b c i) (all-lt n e el w _ b′ c′ i) j
 
-  -- The pieces of a line join neighbours among its three places: of two lines with no end in common no two pieces meet.
-  pub disjoint : (e f : ℕ) → e < g .L → f < g .L → g .u e ≢ g .u f → g .u e ≢ g .v f → g .v e ≢ g .u f → g .v e ≢ g .v f →
-      (i j i′ j′ : Spot) → meet (spot g e i) (spot g e j) (spot g f i′) (spot g f j′) ≡ false
+  pub disjoint : EndsApart g
   disjoint e f el fl n₁ n₂ n₃ n₄ i j i′ j′ =
       go
       (parted fun (t f (g .u e) fl (o e el .0) n₁ n₂) (t f (g .v e) fl (o e el .1) n₃ n₄)

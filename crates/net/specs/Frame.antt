@@ -5,7 +5,10 @@ use mathlib.Core.Logic.{_≢_}
 use native.Mathlib.Omega.{arith}
 use native.Mathlib.Decide.{ℕ-discrete}
 use Rattle.rules.specs.declared.Place.{Place}
-use Rattle.net.specs.Side.{Tie, strict, off, Side, rt, lf, op, at}
+use Rattle.rules.specs.declared.Style.{Style}
+use Rattle.rules.specs.declared.Style.the-variants.{OneBend}
+use Rattle.rules.specs.Styles.{inset}
+use Rattle.net.specs.Side.{Side, rt, lf, op, at}
 use Rattle.net.specs.Net.{Net, side, Next, beyond-a, beyond-b}
 use Rattle.net.specs.Inv.{Points, Corners, Inv, Border, Slope}
 use Rattle.net.specs.Bend.{pt, Spot, start, bend, end, spot, Way, to, high, fun, Between, there, back, bend-between}
@@ -20,12 +23,12 @@ pub data Level (p q : Place) : Type 0 where
   up : p .x + q .y ≡ q .x + p .y → Level p q
   down : p .x + p .y ≡ q .x + q .y → Level p q
 
-module _ {τ : Tie} {g : Net} (h : Points τ g) (k : Corners τ g) where
+module _ {τ : Style} {g : Net} (h : Points τ g) (k : Corners τ g) where
   -- the last boundary index, at which point 1 stands
   m1 : suc (g .m - 1) ≡ g .m
   m1 = omega (arith, k .size)
 
-  pub left-of : (p : ℕ) → p < g .k → p ≢ 1 → g .x p + g .y p + off τ ≤ g .x 1
+  pub left-of : (p : ℕ) → p < g .k → p ≢ 1 → g .x p + g .y p + inset τ ≤ g .x 1
   left-of p pk d =
       let q = k .last (g .m - 1) m1 in
       omega (
@@ -34,7 +37,7 @@ module _ {τ : Tie} {g : Net} (h : Points τ g) (k : Corners τ g) where
         k .origin .2,
       )
 
-  pub right-of : (p : ℕ) → p < g .k → p ≢ 0 → g .y p + off τ ≤ g .x p
+  pub right-of : (p : ℕ) → p < g .k → p ≢ 0 → g .y p + inset τ ≤ g .x p
   right-of p pk d =
       let q = k .first in
       omega (arith, beyond-a (rw q at (h .walls rt 0 p (omega (arith, k .size)) pk (rw q d) (omega arith))), k .origin .0, k .origin .1)
@@ -79,7 +82,7 @@ module _ {g : Net} (n : Inv g) (k : Border g) where
       go (t .s) (t .kind) (t .u) (t .v) (t .next) (rw (t .u, t .v) at (n .slopes .slope (t .s) _ (t .e) (t .el) (t .kind)))
     where
       go : {e : ℕ} (s : Side) → g .kind e ≡ side s (g .d s (g .w (at s i (suc i)))) → g .u e ≡ g .w (at s i (suc i)) → g .v e ≡ g .w (at (op s) i (suc i)) →
-          Next strict s g (g .w (at s i (suc i))) (g .w (at (op s) i (suc i))) →
+          Next OneBend s g (g .w (at s i (suc i))) (g .w (at (op s) i (suc i))) →
           Slope s g (g .w (at s i (suc i))) (g .w (at (op s) i (suc i))) (g .d s (g .w (at s i (suc i)))) → Level (spot g e bend) (spot g e end)
       go rt ek eu ev b f = rw (ek, eu, ev) (up (omega arith))
       go lf ek eu ev b f = rw (ek, eu, ev) (down (omega arith))

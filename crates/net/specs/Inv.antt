@@ -2,35 +2,47 @@
 use Prim.Native.Nat.{ℕ, suc, _+_, _*_, _<_, _≤_}
 use mathlib.Core.Path.{_≡_}
 use mathlib.Core.Logic.{_≢_}
-use Rattle.net.specs.Side.{Tie, strict, Side, rt, lf, op, Cols, at}
-use Rattle.net.specs.Net.{Net, BendKind, side, middle, flat, Beyond, Clear, Next}
+use Rattle.rules.specs.declared.Style.{Style}
+use Rattle.rules.specs.declared.Style.the-variants.{OneBend, Straight}
+use Rattle.net.specs.Side.{Side, rt, lf, op, Cols, at}
+use Rattle.net.specs.Net.{Net, BendKind, side, middle, flat, sideKind, Beyond, Clear, Next}
 
 -- 1 and 2 in one: of a boundary point w i, every other point of its column or of a column on side s lies further to side s
-pub record Points (τ : Tie) (g : Net) : Type 0 where
+pub record Points (τ : Style) (g : Net) : Type 0 where
   pub on : (i : ℕ) → i < g .m → (g .w i < g .k) × (g .col (g .w i) ≡ i)
   pub cols : (p : ℕ) → p < g .k → g .col p < g .m
   pub frame : (p : ℕ) → p < g .k → g .y p ≤ g .x p
   pub walls : (s : Side) (i p : ℕ) → i < g .m → p < g .k → p ≢ g .w i → Cols s i (g .col p) → Beyond τ s g (g .w i) p
 
--- 3. What the kind of a line tells of its ends
-pub record Aside (τ : Tie) (s : Side) (g : Net) (p q : ℕ) : Type 0 where
+-- 3. What the kind of a line tells of its ends, where lines bend
+pub record Aside (τ : Style) (s : Side) (g : Net) (p q : ℕ) : Type 0 where
   pub cols : Cols s (g .col p) (g .col q)
   pub away : Beyond τ s g p q
   pub back : Beyond τ (op s) g q p
 
-pub data Fits (τ : Tie) (g : Net) (p q : ℕ) : BendKind → Type 0 where
-  port : {s : Side} {j : ℕ} → Aside τ s g p q → 0 < j → j ≤ g .d s p → Fits τ g p q (side s j)
-  within : {i : ℕ} → g .col p ≡ g .col q → Beyond τ rt g q p → Beyond τ lf g q p → Fits τ g p q (middle i)
-  plain : Aside τ rt g p q → g .y p ≡ g .y q → Fits τ g p q flat
+pub data Bent (g : Net) (p q : ℕ) : BendKind → Type 0 where
+  port : {s : Side} {j : ℕ} → Aside OneBend s g p q → 0 < j → j ≤ g .d s p → Bent g p q (side s j)
+  within : {i : ℕ} → g .col p ≡ g .col q → Beyond OneBend rt g q p → Beyond OneBend lf g q p → Bent g p q (middle i)
+  plain : Aside OneBend rt g p q → g .y p ≡ g .y q → Bent g p q flat
+
+-- what both drawings know of them: the later end is aside of the earlier one, or in its column
+pub data Leans (τ : Style) (g : Net) (p q : ℕ) : Type 0 where
+  aside : (s : Side) → Aside τ s g p q → Leans τ g p q
+  upright : g .col p ≡ g .col q → Leans τ g p q
+
+-- 3 for both drawings: a straight line has no port
+abbrev pub Fits : Style → Net → ℕ → ℕ → BendKind → Type 0
+Fits OneBend g p q κ = Bent g p q κ
+Fits Straight g p q κ = (κ ≡ flat) × Leans Straight g p q
 
 -- 6. Every other point is clear of a line.
-pub record Lines (τ : Tie) (g : Net) : Type 0 where
+pub record Lines (τ : Style) (g : Net) : Type 0 where
   pub ends : (e : ℕ) → e < g .L → (g .u e < g .k) × (g .v e < g .k)
   pub fits : (e : ℕ) → e < g .L → Fits τ g (g .u e) (g .v e) (g .kind e)
   pub tri : (e p : ℕ) → e < g .L → p < g .k → p ≢ g .u e → p ≢ g .v e → Clear τ g (g .u e) (g .v e) p
 
 -- 7. Ports of p on side s: 1 .. d s p, each with one line, and the later ends rise. The middle ports of a point: each with one line, and the earlier ends go right.
-pub record Ports (τ : Tie) (g : Net) : Type 0 where
+pub record Ports (τ : Style) (g : Net) : Type 0 where
   pub used : (s : Side) (p j : ℕ) → p < g .k → 0 < j → j ≤ g .d s p → (e : ℕ) × (e < g .L) × (g .kind e ≡ side s j) × (g .u e ≡ p)
   pub once : (s : Side) (j e f : ℕ) → e < g .L → f < g .L → g .kind e ≡ side s j → g .kind f ≡ side s j → g .u e ≡ g .u f → e ≡ f
   pub stack : (s : Side) (i j e f : ℕ) → e < g .L → f < g .L → g .kind e ≡ side s i → g .kind f ≡ side s j → g .u e ≡ g .u f → i < j →
@@ -69,16 +81,16 @@ pub record Frees (g : Net) : Type 0 where
 
 -- 5, 8 (the count) and 9
 -- the line between boundary points i and i + 1: from the highest port on side s of one to the other, one step further
-pub record Link (τ : Tie) (g : Net) (i : ℕ) : Type 0 where
+pub record Link (τ : Style) (g : Net) (i : ℕ) : Type 0 where
   pub s : Side
   pub e : ℕ
   pub el : e < g .L
-  pub kind : g .kind e ≡ side s (g .d s (g .w (at s i (suc i))))
+  pub kind : g .kind e ≡ sideKind τ s (g .d s (g .w (at s i (suc i))))
   pub u : g .u e ≡ g .w (at s i (suc i))
   pub v : g .v e ≡ g .w (at (op s) i (suc i))
   pub next : Next τ s g (g .w (at s i (suc i))) (g .w (at (op s) i (suc i)))
 
-pub record Corners (τ : Tie) (g : Net) : Type 0 where
+pub record Corners (τ : Style) (g : Net) : Type 0 where
   pub size : 1 < g .m
   pub placed : 1 < g .k
   pub first : g .w 0 ≡ 0
@@ -98,7 +110,7 @@ pub record Alike (g : Net) : Type 0 where
   pub one : (e f : ℕ) → e < g .L → f < g .L → g .u e ≡ g .u f → g .v e ≡ g .v f → e ≡ f
 
 -- what both drawings keep, the one-bend drawing strictly, the straight one with ties by height
-pub record Core (τ : Tie) (g : Net) : Type 0 where
+pub record Core (τ : Style) (g : Net) : Type 0 where
   pub points : Points τ g
   pub lines : Lines τ g
   pub owners : Owners g
@@ -107,8 +119,8 @@ pub record Core (τ : Tie) (g : Net) : Type 0 where
 
 -- the one-bend drawing
 pub record Inv (g : Net) : Type 0 where
-  pub core : Core strict g
-  pub ports : Ports strict g
+  pub core : Core OneBend g
+  pub ports : Ports OneBend g
   pub slopes : Slopes g
   pub frees : Frees g
 

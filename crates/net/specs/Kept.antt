@@ -1,6 +1,6 @@
 -- The one-bend drawing's invariant outlives the step.
 use Prim.Native.Nat.{ℕ}
-use Rattle.net.specs.Side.{strict}
+use Rattle.rules.specs.declared.Style.the-variants.{OneBend}
 use Rattle.net.specs.Net.{Net}
 use Rattle.net.specs.Inv.{Inv}
 use Rattle.net.specs.Adds.{Adds, Bends, Exact, Owning}
@@ -9,7 +9,7 @@ use Rattle.net.specs.Ports.{ports′}
 use Rattle.net.specs.Slopes.{slopes′}
 use Rattle.net.specs.Frees.{frees′}
 
-pub kept : {g g′ : Net} {l r : ℕ} → Inv g → (a : Adds strict g g′ l r) → Exact g g′ l r a → Owning g g′ l r → Bends g g′ l r a → Inv g′
+pub kept : {g g′ : Net} {l r : ℕ} → Inv g → (a : Adds OneBend g g′ l r) → Exact g g′ l r a → Owning g g′ l r → Bends g g′ l r a → Inv g′
 kept i a x o b =
     let h = i .core .points in
     let n = i .core .lines in

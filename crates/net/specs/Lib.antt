@@ -16,10 +16,11 @@ pub mod Core
 pub mod Kept
 pub mod Amounts
 pub mod Bend
-pub mod Disjoint
 pub mod Touch
 pub mod Roles
 pub mod Stack
+pub mod Parting
+pub mod Disjoint
 pub mod Shared
 pub mod Frame
 pub mod Angles
@@ -29,3 +30,5 @@ pub mod Parity
 pub mod Row
 pub mod Start
 pub mod Opened
+pub mod Plane
+pub mod Size

@@ -2,19 +2,16 @@
 use Prim.Native.Nat.{ℕ, _<_, _≤_}
 use mathlib.Core.Path.{_≡_, refl}
 use native.Mathlib.Omega.{arith}
-use Rattle.net.specs.Side.{strict, Side, rt, lf}
+use Rattle.rules.specs.declared.Style.the-variants.{OneBend}
+use Rattle.net.specs.Side.{Side, rt, lf}
 use Rattle.net.specs.Net.{Net, BendKind, side, middle, flat}
-use Rattle.net.specs.Start.{by3, counts, three, start, Starts, core-start}
+use Rattle.net.specs.Start.{by3, counts, three, start, core-start}
 use Rattle.net.specs.Degs.{tally, hits, deg, Degs}
 use Rattle.net.specs.Inv.{Ports, Slope, Slopes, Frees, Inv, Border}
 
 -- the opened drawing, over any net past its three points
 abbrev pub opened : Net → Net
-opened g = start 6 3 2 g
-
--- its three points lie as `Start` asks
-starts : Starts strict 6 3 2
-starts = omega arith
+opened g = start OneBend g
 
 -- ---- the three lines by their kinds
 
@@ -62,14 +59,14 @@ module _ (f : ℕ → BendKind) where
 
 module _ (g : Net) where
   -- each port has its line
-  used : (s : Side) (p : ℕ) → p < 3 → (j : ℕ) → 0 < j → j ≤ counts (g .d) s p → (e : ℕ) × (e < 3) × (kinds (g .kind) e ≡ side s j) × (by3 0 0 1 (g .u) e ≡ p)
+  used : (s : Side) (p : ℕ) → p < 3 → (j : ℕ) → 0 < j → j ≤ counts OneBend (g .d) s p → (e : ℕ) × (e < 3) × (kinds (g .kind) e ≡ side s j) × (by3 0 0 1 (g .u) e ≡ p)
   used rt =
       three _ (λ j z b. let i : j ≡ 1 = omega arith in (1, omega arith, rw i, refl)) (λ j z b. absurd (omega arith)) (λ j z b. absurd (omega arith))
   used lf =
       three _ (λ j z b. absurd (omega arith)) (λ j z b. let i : j ≡ 1 = omega arith in (2, omega arith, rw i, refl)) (λ j z b. absurd (omega arith))
 
   -- 7
-  ports : Ports strict (opened g)
+  ports : Ports OneBend (opened g)
   unfolding start
   ports =
       record {
@@ -110,7 +107,7 @@ module _ (g : Net) where
 
   -- the opened drawing keeps the invariant
   pub inv-opened : Inv (opened g)
-  inv-opened = record { core = core-start 6 3 2 g strict starts; ports = ports; slopes = slopes; frees = frees }
+  inv-opened = record { core = core-start g OneBend; ports = ports; slopes = slopes; frees = frees }
 
   -- its width is 6
   pub border-opened : Border (opened g)

@@ -4,13 +4,13 @@ use mathlib.Core.Path.{_≡_, sym, ap, _∙_}
 use mathlib.Core.Logic.{_≢_}
 use native.Mathlib.Omega.{arith}
 use native.Mathlib.Decide.{decLe, ℕ-discrete}
-use Rattle.net.specs.Side.{Tie}
+use Rattle.rules.specs.declared.Style.{Style}
 use Rattle.net.specs.Net.{Net}
 use Rattle.net.specs.Inv.{Points, Owners}
 use Rattle.net.specs.Adds.{join, Adds, Owning}
 use Rattle.net.specs.Walls.{by-point, w-low, w-new, w-high}
 
-module _ {τ : Tie} {g g′ : Net} {l r : ℕ} (h : Points τ g) (a : Adds τ g g′ l r) (s : Owning g g′ l r) where
+module _ {τ : Style} {g g′ : Net} {l r : ℕ} (h : Points τ g) (a : Adds τ g g′ l r) (s : Owning g g′ l r) where
   owned′ : Owners g → (p : ℕ) → p < g .k → p ≢ g′ .w (g′ .col p) → (p < g′ .own p) × (g′ .own p < g′ .k) × (g′ .col (g′ .own p) ≡ g′ .col p)
   owned′ o p pk d =
       elim (ℕ-discrete p (g .w (g .col p))) [

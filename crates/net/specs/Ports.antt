@@ -1,32 +1,34 @@
 -- 7 outlives the step.
-use Prim.Native.Nat.{ℕ, suc, _+_, _-_, _<_, _≤_}
+use Prim.Native.Nat.{ℕ, suc, _+_, _<_, _≤_}
 use mathlib.Core.Path.{_≡_, sym, ap, _∙_}
 use mathlib.Core.Logic.{_≢_}
 use native.Mathlib.Omega.{arith}
 use native.Mathlib.Decide.{decLe, decLt, ℕ-discrete}
-use Rattle.net.specs.Side.{Tie, Side, rt, lf, op, Cols, at, at-in, cols-eq, at-op, past-cols, past-not, at-inj, at-out, between, Which, same, other, which}
+use Rattle.rules.specs.declared.Style.the-variants.{OneBend}
+use Rattle.net.specs.Side.{Side, rt, lf, op, Cols, at, cols-eq, at-op, past-cols, past-not, between, Which, same, other, which}
 use Rattle.net.specs.Net.{Net, BendKind, side, middle, Beyond, beyond-not, Clear, beside, above}
 use Rattle.net.specs.Inv.{Points, Aside, Fits, port, within, Lines, Ports}
 use Rattle.net.specs.Adds.{Line, old, tip, rib, Adds}
+use Rattle.net.specs.BendKinds.{stays, tips}
 use Rattle.net.specs.Walls.{chain, keep-beyond, under-new, by-point, tip-m, tip-in, tip-col}
 
 -- what a kind with a port tells of the fit
-pub aside-of : {τ : Tie} {g : Net} {p q : ℕ} (κ : BendKind) {s : Side} {j : ℕ} → κ ≡ side s j → Fits τ g p q κ → Aside τ s g p q × (0 < j) × (j ≤ g .d s p)
+pub aside-of : {g : Net} {p q : ℕ} (κ : BendKind) {s : Side} {j : ℕ} → κ ≡ side s j → Fits OneBend g p q κ → Aside OneBend s g p q × (0 < j) × (j ≤ g .d s p)
 aside-of κ e f = go (rw e at f)
   where
-    go : {τ : Tie} {g : Net} {p q : ℕ} {s : Side} {j : ℕ} → Fits τ g p q (side s j) → Aside τ s g p q × (0 < j) × (j ≤ g .d s p)
+    go : {g : Net} {p q : ℕ} {s : Side} {j : ℕ} → Fits OneBend g p q (side s j) → Aside OneBend s g p q × (0 < j) × (j ≤ g .d s p)
     go (port f b c) = (f, b, c)
 
-pub within-of : {τ : Tie} {g : Net} {p q : ℕ} (κ : BendKind) {j : ℕ} → κ ≡ middle j → Fits τ g p q κ → (g .col p ≡ g .col q) × Beyond τ rt g q p × Beyond τ lf g q p
+pub within-of : {g : Net} {p q : ℕ} (κ : BendKind) {j : ℕ} → κ ≡ middle j → Fits OneBend g p q κ → (g .col p ≡ g .col q) × Beyond OneBend rt g q p × Beyond OneBend lf g q p
 within-of κ e f = go (rw e at f)
   where
-    go : {τ : Tie} {g : Net} {p q : ℕ} {j : ℕ} → Fits τ g p q (middle j) → (g .col p ≡ g .col q) × Beyond τ rt g q p × Beyond τ lf g q p
+    go : {g : Net} {p q : ℕ} {j : ℕ} → Fits OneBend g p q (middle j) → (g .col p ≡ g .col q) × Beyond OneBend rt g q p × Beyond OneBend lf g q p
     go (within e b c) = (e, b, c)
 
-pub same-col : {τ : Tie} {g : Net} {p q : ℕ} (κ : BendKind) {j : ℕ} → κ ≡ middle j → Fits τ g p q κ → g .col p ≡ g .col q
+pub same-col : {g : Net} {p q : ℕ} (κ : BendKind) {j : ℕ} → κ ≡ middle j → Fits OneBend g p q κ → g .col p ≡ g .col q
 same-col κ e f = within-of κ e f .0
 
-module _ {τ : Tie} {g g′ : Net} {l r : ℕ} (h : Points τ g) (n : Lines τ g) (a : Adds τ g g′ l r) where
+module _ {g g′ : Net} {l r : ℕ} (h : Points OneBend g) (n : Lines OneBend g) (a : Adds OneBend g g′ l r) where
   -- a line of g′ at a side's port, and one at a middle port
   pub data Sided (s : Side) (j e : ℕ) : Type 0 where
     was : e < g .L → g .kind e ≡ side s j → g′ .u e ≡ g .u e → g′ .v e ≡ g .v e → Sided s j e
@@ -36,7 +38,7 @@ module _ {τ : Tie} {g g′ : Net} {l r : ℕ} (h : Points τ g) (n : Lines τ g
     had : e < g .L → g .kind e ≡ middle j → g′ .u e ≡ g .u e → g′ .v e ≡ g .v e → Mid j e
     got : (i : ℕ) → l < i → i < r → e + l ≡ g .L + i → j ≡ a .port i → g′ .u e ≡ g .w i → g′ .v e ≡ g .k → Mid j e
 
-  pub sided : (s : Side) (j e : ℕ) → Line g g′ l r (a .port) e → g′ .kind e ≡ side s j → Sided s j e
+  pub sided : (s : Side) (j e : ℕ) → Line OneBend g g′ l r (a .port) e → g′ .kind e ≡ side s j → Sided s j e
   sided s j e (old el eu ev ek) q = was el (cc) eu ev
   sided s j e (tip t i eu ev ek) q =
       let ts : t ≡ s = cc in
@@ -44,12 +46,12 @@ module _ {τ : Tie} {g g′ : Net} {l r : ℕ} (h : Points τ g) (n : Lines τ g
       new (rw ts at i) (rw ts at jd) (rw ts at eu) ev
   sided s j e (rib i li ir en eu ev ek) q = let z : _≡_ {A = ℕ} 0 1 = cc in absurd (omega arith)
 
-  pub mid : (j e : ℕ) → Line g g′ l r (a .port) e → g′ .kind e ≡ middle j → Mid j e
+  pub mid : (j e : ℕ) → Line OneBend g g′ l r (a .port) e → g′ .kind e ≡ middle j → Mid j e
   mid j e (old el eu ev ek) q = had el (cc) eu ev
   mid j e (tip t i eu ev ek) q = let z : _≡_ {A = ℕ} 0 1 = cc in absurd (omega arith)
   mid j e (rib i li ir en eu ev ek) q = got i li ir en (cc) eu ev
 
-  pub fit : (s : Side) (j e : ℕ) → e < g .L → g .kind e ≡ side s j → Aside τ s g (g .u e) (g .v e) × (0 < j) × (j ≤ g .d s (g .u e))
+  pub fit : (s : Side) (j e : ℕ) → e < g .L → g .kind e ≡ side s j → Aside OneBend s g (g .u e) (g .v e) × (0 < j) × (j ≤ g .d s (g .u e))
   fit s j e el q = aside-of (g .kind e) q (n .fits e el)
 
   -- the later end of an older port at an end of the run is lower than the new point
@@ -66,7 +68,7 @@ module _ {τ : Tie} {g g′ : Net} {l r : ℕ} (h : Points τ g) (n : Lines τ g
       far : g .w (at (op s) l r) ≢ g .u e
       far i = past-not (op s) (at-op s (a .lr)) (cols-eq (op s) (omega (arith, ap (g .col) i, ce, tip-col h a (op s))))
 
-      by-side : (t : Side) → Which s t → Cols t (g .col (g .v e)) (g .col (g .w (at (op s) l r))) → Beyond τ t g (g .u e) (g .w (at (op s) l r)) → g .y (g .v e) < g′ .y (g .k)
+      by-side : (t : Side) → Which s t → Cols t (g .col (g .v e)) (g .col (g .w (at (op s) l r))) → Beyond OneBend t g (g .u e) (g .w (at (op s) l r)) → g .y (g .v e) < g′ .y (g .k)
       by-side t same c b =
           let f = between s l r (rw ce at (fit s j e el q .0 .cols)) (rw (tip-col h a (op s)) at c) in
           under-new h a (g .v e) (n .ends e el .1) (f .0) (f .1)
@@ -75,13 +77,13 @@ module _ {τ : Tie} {g g′ : Net} {l r : ℕ} (h : Points τ g) (n : Lines τ g
           (beyond-not (op s) b
           (h .walls (op s) (at (op s) l r) (g .u e) (tip-m h a (op s)) (n .ends e el .0) (λ i. far (sym i)) (rw ce (past-cols (op s) (at-op s (a .lr))))))
 
-      go : Clear τ g (g .u e) (g .v e) (g .w (at (op s) l r)) → g .y (g .v e) < g′ .y (g .k)
+      go : Clear OneBend g (g .u e) (g .v e) (g .w (at (op s) l r)) → g .y (g .v e) < g′ .y (g .k)
       go (beside t c c′ b b′) = by-side t (which s t) c′ b
       go (above b b′) = omega (arith, a .places .over (op s))
 
   -- ---- side ports
 
-  stack′ : (s : Side) (i j e f : ℕ) → Ports τ g → Sided s i e → Sided s j f → g′ .u e ≡ g′ .u f → i < j → g′ .y (g′ .v e) < g′ .y (g′ .v f)
+  stack′ : (s : Side) (i j e f : ℕ) → Ports OneBend g → Sided s i e → Sided s j f → g′ .u e ≡ g′ .u f → i < j → g′ .y (g′ .v e) < g′ .y (g′ .v f)
   stack′ s i j e f b (was el ek eu ev) (was fl fk fu fv) q lt =
       rw (ev, fv)
       (omega (arith, b .stack s i j e f el fl ek fk (omega arith) lt, a .y′ (g .v e) (n .ends e el .1), a .y′ (g .v f) (n .ends f fl .1)))
@@ -92,7 +94,7 @@ module _ {τ : Tie} {g g′ : Net} {l r : ℕ} (h : Points τ g) (n : Lines τ g
       absurd (omega (arith, fit s j f fl fk .2, ap (g .d s) z))
   stack′ s i j e f b (new en ej eu ev) (new fn fj fu fv) q lt = absurd (omega arith)
 
-  once′ : (s : Side) (j e f : ℕ) → Ports τ g → Sided s j e → Sided s j f → g′ .u e ≡ g′ .u f → e ≡ f
+  once′ : (s : Side) (j e f : ℕ) → Ports OneBend g → Sided s j e → Sided s j f → g′ .u e ≡ g′ .u f → e ≡ f
   once′ s j e f b (was el ek eu ev) (was fl fk fu fv) q = b .once s j e f el fl ek fk (omega arith)
   once′ s j e f b (was el ek eu ev) (new fn fj fu fv) q =
       let z : g .u e ≡ g .w (at s l r) = omega arith in absurd (omega (arith, fit s j e el ek .2, ap (g .d s) z))
@@ -100,37 +102,16 @@ module _ {τ : Tie} {g g′ : Net} {l r : ℕ} (h : Points τ g) (n : Lines τ g
       let z : g .u f ≡ g .w (at s l r) = omega arith in absurd (omega (arith, fit s j f fl fk .2, ap (g .d s) z))
   once′ s j e f b (new en ej eu ev) (new fn fj fu fv) q = omega arith
 
-  -- the lines of g are in g′, and so are the new ones
-  pub stays : (e : ℕ) → e < g .L → (e < g′ .L) × (g′ .kind e ≡ g .kind e) × (g′ .u e ≡ g .u e) × (g′ .v e ≡ g .v e)
-  stays e el = let b : e < g′ .L = omega (arith, a .L′, a .lr) in go b (a .line e b)
-    where
-      go : e < g′ .L → Line g g′ l r (a .port) e → (e < g′ .L) × (g′ .kind e ≡ g .kind e) × (g′ .u e ≡ g .u e) × (g′ .v e ≡ g .v e)
-      go b (old el eu ev ek) = (b, ek, eu, ev)
-      go b (tip t i eu ev ek) = absurd (omega (arith, at-in t (a .lr)))
-      go b (rib i li ir en eu ev ek) = absurd (omega arith)
-
-  pub tips : (s : Side) → (e : ℕ) × (e < g′ .L) × (g′ .kind e ≡ side s (suc (g .d s (g .w (at s l r))))) × (g′ .u e ≡ g .w (at s l r)) × (g′ .v e ≡ g .k)
-  tips s = let b : g .L + (at s l r - l) < g′ .L = omega (arith, a .L′, o) in go b (a .line (g .L + (at s l r - l)) b)
-    where
-      o : (l ≤ at s l r) × (at s l r ≤ r)
-      o = at-in s (a .lr)
-
-      go : g .L + (at s l r - l) < g′ .L → Line g g′ l r (a .port) (g .L + (at s l r - l)) →
-          (e : ℕ) × (e < g′ .L) × (g′ .kind e ≡ side s (suc (g .d s (g .w (at s l r))))) × (g′ .u e ≡ g .w (at s l r)) × (g′ .v e ≡ g .k)
-      go b (old el eu ev ek) = absurd (omega arith)
-      go b (tip t i eu ev ek) = let z : t ≡ s = at-inj s t (a .lr) (omega (arith, o)) in (_, b, rw z at ek, rw z at eu, ev)
-      go b (rib i li ir en eu ev ek) = absurd (at-out s li ir (omega (arith, o)))
-
-  used′ : (s : Side) (p j : ℕ) → Ports τ g → p < g .k → 0 < j → j ≤ g′ .d s p → (e : ℕ) × (e < g′ .L) × (g′ .kind e ≡ side s j) × (g′ .u e ≡ p)
+  used′ : (s : Side) (p j : ℕ) → Ports OneBend g → p < g .k → 0 < j → j ≤ g′ .d s p → (e : ℕ) × (e < g′ .L) × (g′ .kind e ≡ side s j) × (g′ .u e ≡ p)
   used′ s p j b pk z c =
       elim (decLe j (g .d s p)) [
         | yes q ↦
             let f = b .used s p j pk z q in
-            let t = stays (f .0) (f .1) in
+            let t = stays h a (f .0) (f .1) in
             (f .0, t .0, t .1 ∙ f .2, t .2 ∙ f .3)
         | no q ↦ elim (ℕ-discrete p (g .w (at s l r))) [
           | yes i ↦
-              let f = tips s in
+              let f = tips h a s in
               let ji : j ≡ suc (g .d s (g .w (at s l r))) = omega (arith, a .d-tip s, ap (g .d s) i, ap (g′ .d s) i) in
               (f .0, f .1, rw ji (f .2), rw i (f .3))
           | no i ↦ absurd (omega (arith, a .d-old s p pk i))
@@ -159,16 +140,16 @@ module _ {τ : Tie} {g g′ : Net} {l r : ℕ} (h : Points τ g) (n : Lines τ g
         ]
       ]
 
-  single′ : (j e f : ℕ) → Ports τ g → Mid j e → Mid j f → g′ .v e ≡ g′ .v f → e ≡ f
+  single′ : (j e f : ℕ) → Ports OneBend g → Mid j e → Mid j f → g′ .v e ≡ g′ .v f → e ≡ f
   single′ j e f b (had el ek eu ev) (had fl fk fu fv) q = b .single j e f el fl ek fk (omega arith)
   single′ j e f b (had el ek eu ev) (got i li ir fn fj fu fv) q = absurd (omega (arith, n .ends e el))
   single′ j e f b (got i li ir en ej eu ev) (had fl fk fu fv) q = absurd (omega (arith, n .ends f fl))
   single′ j e f b (got i li ir en ej eu ev) (got i′ li′ ir′ fn fj fu fv) q = omega (arith, port-eq i i′ li ir li′ ir′ (omega arith))
 
-  go-right : {p q : ℕ} → p < g .k → q < g .k → g .col p ≤ g .col q → Beyond τ rt g p q × Beyond τ lf g q p → Beyond τ rt g′ p q × Beyond τ lf g′ q p
+  go-right : {p q : ℕ} → p < g .k → q < g .k → g .col p ≤ g .col q → Beyond OneBend rt g p q × Beyond OneBend lf g q p → Beyond OneBend rt g′ p q × Beyond OneBend lf g′ q p
   go-right pk qk c b = (keep-beyond h a rt pk qk (omega arith) (b .0), keep-beyond h a lf qk pk (omega arith) (b .1))
 
-  row′ : (i j e f : ℕ) → Ports τ g → Mid i e → Mid j f → g′ .v e ≡ g′ .v f → i < j → Beyond τ rt g′ (g′ .u e) (g′ .u f) × Beyond τ lf g′ (g′ .u f) (g′ .u e)
+  row′ : (i j e f : ℕ) → Ports OneBend g → Mid i e → Mid j f → g′ .v e ≡ g′ .v f → i < j → Beyond OneBend rt g′ (g′ .u e) (g′ .u f) × Beyond OneBend lf g′ (g′ .u f) (g′ .u e)
   row′ i j e f b (had el ek eu ev) (had fl fk fu fv) q lt =
       let z : g .v e ≡ g .v f = omega arith in
       let ce = same-col (g .kind e) ek (n .fits e el) in
@@ -184,7 +165,7 @@ module _ {τ : Tie} {g g′ : Net} {l r : ℕ} (h : Points τ g) (n : Lines τ g
       let oc′ = h .on c′ cm′ in
       rw (eu, fu) (go-right (oc .0) (oc′ .0) (omega arith) (chain h c c′ cc′ cm′))
 
-  pub ports′ : Ports τ g → Ports τ g′
+  pub ports′ : Ports OneBend g → Ports OneBend g′
   ports′ b =
       record {
         used =

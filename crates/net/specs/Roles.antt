@@ -5,7 +5,8 @@ use native.Mathlib.Omega.{arith}
 use native.Mathlib.Decide.{ℕ-discrete}
 use Rattle.rules.specs.declared.Place.{Place}
 use Rattle.plane.specs.Apart.{Fun, Le, OnlyAt, fx, fy, fa}
-use Rattle.net.specs.Side.{strict, Side, rt, lf, op}
+use Rattle.rules.specs.declared.Style.the-variants.{OneBend}
+use Rattle.net.specs.Side.{Side, rt, lf, op}
 use Rattle.net.specs.Net.{Net, side, middle, flat}
 use Rattle.net.specs.Inv.{Aside, Slope, Reach}
 use Rattle.net.specs.Bend.{pt, turn, places, Spot, start, bend, end}
@@ -177,7 +178,7 @@ module _ (g : Net) (p q : ℕ) where
       inner lf bend = omega arith
       inner lf end = omega arith
 
-  pub flat-start : Aside strict rt g p q → g .y p ≡ g .y q → FreeAt rt (pt g p) (places g p q flat)
+  pub flat-start : Aside OneBend rt g p q → g .y p ≡ g .y q → FreeAt rt (pt g p) (places g p q flat)
   flat-start f e = record { outs = outs; low = low; inner = inner }
     where
       outs : (i : Spot) → Lift (out rt) (pt g p) (places g p q flat i)
@@ -195,7 +196,7 @@ module _ (g : Net) (p q : ℕ) where
       inner bend = omega arith
       inner end = omega arith
 
-  pub flat-end : Aside strict rt g p q → g .y p ≡ g .y q → FreeAt lf (pt g q) (places g p q flat)
+  pub flat-end : Aside OneBend rt g p q → g .y p ≡ g .y q → FreeAt lf (pt g q) (places g p q flat)
   flat-end f e = record { outs = outs; low = low; inner = inner }
     where
       outs : (i : Spot) → Lift (out lf) (pt g q) (places g p q flat i)

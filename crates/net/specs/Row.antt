@@ -11,7 +11,7 @@ use Rattle.rules.specs.Basics.{if_then_else_}
 use Rattle.rules.specs.Adding.{middleOf}
 use Rattle.plane.specs.Apart.{fa, fb}
 use Rattle.plane.specs.Rise.{rise}
-use Rattle.net.specs.Side.{strict}
+use Rattle.rules.specs.declared.Style.the-variants.{OneBend}
 use Rattle.net.specs.Net.{Net}
 use Rattle.net.specs.Inv.{Points, Reach, Inv}
 use Rattle.net.specs.Walls.{chain}
@@ -49,9 +49,9 @@ module _ (xl yl xp yp xr yr X Y s₁ s₂ D i : ℕ) where
 
 -- ---- every port of the row reaches its point
 
-module _ {g g′ : Net} {l r s₁ s₂ : ℕ} (inv : Inv g) (a : Amounts strict g g′ l r s₁ s₂) (row : g′ .h (g .k) ≡ (r - l + 1) / 2) where
+module _ {g g′ : Net} {l r s₁ s₂ : ℕ} (inv : Inv g) (a : Amounts OneBend g g′ l r s₁ s₂) (row : g′ .h (g .k) ≡ (r - l + 1) / 2) where
   -- the points of g, and the run's bounds
-  h : Points strict g
+  h : Points OneBend g
   h = inv .core .points
 
   lr : l < r

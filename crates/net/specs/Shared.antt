@@ -6,14 +6,16 @@ use native.Mathlib.Omega.{arith}
 use native.Mathlib.Decide.{decLt, ℕ-discrete}
 use Rattle.rules.specs.declared.Place.{Place}
 use Rattle.plane.specs.Only.{only-flip}
-use Rattle.net.specs.Side.{strict, Side, rt, lf, op, Which, which, same, other}
+use Rattle.rules.specs.declared.Style.the-variants.{OneBend}
+use Rattle.net.specs.Side.{Side, rt, lf, op, Which, which, same, other}
 use Rattle.net.specs.Net.{Net, BendKind, side, middle, flat, Beyond, beyond-not, Clear, beside, above}
-use Rattle.net.specs.Inv.{Aside, Fits, port, within, plain, Inv}
+use Rattle.net.specs.Inv.{Aside, Bent, port, within, plain, Inv}
 use Rattle.net.specs.Ports.{aside-of}
 use Rattle.net.specs.Bend.{pt, Spot, spot}
 use Rattle.net.specs.Roles
 use Rattle.net.specs.Roles.{PortAt, FreeAt, MidAt, TopAt, Only}
 use Rattle.net.specs.Stack.{head, tail, OnlyHalf, ports-only, mids-only}
+use Rattle.net.specs.Parting.{EndShared}
 
 -- why a line's free piece ends at z on side s
 pub data Came (g : Net) (z e : ℕ) (s : Side) : Type 0 where
@@ -34,13 +36,13 @@ flip-half : (z : Place) (S T : Spot → Place) → OnlyHalf z S T → OnlyHalf z
 flip-half z S T h i j = only-flip _ _ _ _ _ (h j i)
 
 module _ {g : Net} (n : Inv g) where
-  start-role : (e : ℕ) → e < g .L → (κ : BendKind) → g .kind e ≡ κ → Fits strict g (g .u e) (g .v e) κ → Role g (g .u e) e
+  start-role : (e : ℕ) → e < g .L → (κ : BendKind) → g .kind e ≡ κ → Bent g (g .u e) (g .v e) κ → Role g (g .u e) e
   start-role e el (side s j) q (port f b c) = out s j q refl (rw q (Roles.port-at g (g .u e) (g .v e) s j b c (n .slopes .slope s j e el q)))
   start-role e el (middle j) q (within f b c) =
       top j q refl (rw q (Roles.top-at g (g .u e) (g .v e) j (n .core .points .frame (g .v e) (n .core .lines .ends e el .1)) (n .slopes .reach j e el q)))
   start-role e el flat q (plain f c) = free rt (based q (inl refl)) (rw q (Roles.flat-start g (g .u e) (g .v e) f c))
 
-  end-role : (e : ℕ) → e < g .L → (κ : BendKind) → g .kind e ≡ κ → Fits strict g (g .u e) (g .v e) κ → Role g (g .v e) e
+  end-role : (e : ℕ) → e < g .L → (κ : BendKind) → g .kind e ≡ κ → Bent g (g .u e) (g .v e) κ → Role g (g .v e) e
   end-role e el (side rt j) q (port f b c) = free lf (landed j q refl) (rw q (Roles.free-at g (g .u e) (g .v e) rt j c (n .slopes .slope rt j e el q)))
   end-role e el (side lf j) q (port f b c) = free rt (landed j q refl) (rw q (Roles.free-at g (g .u e) (g .v e) lf j c (n .slopes .slope lf j e el q)))
   end-role e el (middle j) q (within f b c) =
@@ -77,17 +79,17 @@ module _ {g : Net} (n : Inv g) where
       y : g .y (g .v e) < g .y (g .v f)
       y = n .ports .stack s i j e f el fl ek fk (eu ∙ sym fu) lt
 
-      a : Aside strict s g (g .u e) (g .v e)
+      a : Aside OneBend s g (g .u e) (g .v e)
       a = aside-of (g .kind e) ek (n .core .lines .fits e el) .0
 
       not-u : g .v e ≢ g .u e
-      not-u q = let b : Beyond strict s g (g .u e) (g .u e) = rw q at (a .away) in beyond-not s b b
+      not-u q = let b : Beyond OneBend s g (g .u e) (g .u e) = rw q at (a .away) in beyond-not s b b
 
-      by-side : (t : Side) → Which s t → Beyond strict t g (g .u f) (g .v e) → Beyond strict t g (g .v f) (g .v e) → Beyond strict s g (g .v f) (g .v e)
+      by-side : (t : Side) → Which s t → Beyond OneBend t g (g .u f) (g .v e) → Beyond OneBend t g (g .v f) (g .v e) → Beyond OneBend s g (g .v f) (g .v e)
       by-side t same b c = c
       by-side t other b c = absurd (beyond-not (op s) (a .back) (rw (eu ∙ sym fu) b))
 
-      go : Clear strict g (g .u f) (g .v f) (g .v e) → Beyond strict s g (g .v f) (g .v e)
+      go : Clear OneBend g (g .u f) (g .v f) (g .v e) → Beyond OneBend s g (g .v f) (g .v e)
       go (beside t c c′ b b′) = by-side t (which s t) b b′
       go (above b b′) = absurd (omega (arith, y))
 
@@ -162,7 +164,5 @@ module _ {g : Net} (n : Inv g) where
   role z e el (inl q) = rw (sym q) (start-role e el (g .kind e) refl (n .core .lines .fits e el))
   role z e el (inr q) = rw (sym q) (end-role e el (g .kind e) refl (n .core .lines .fits e el))
 
-  -- Two different lines that end at z: no piece of one has a point in common with a piece of the other but z.
-  pub shared : (z e f : ℕ) → e < g .L → f < g .L → e ≢ f → (g .u e ≡ z) ⊎ (g .v e ≡ z) → (g .u f ≡ z) ⊎ (g .v f ≡ z) →
-      OnlyHalf (pt g z) (spot g e) (spot g f)
+  pub shared : EndShared g
   shared z e f el fl d p q = pair z e f el fl d (role z e el p) (role z f fl q)

@@ -12,7 +12,8 @@ use Rattle.plane.specs.Exact.{common-meet}
 use Rattle.plane.specs.Apart.{Le, OnlyAt, fy, fa, apart, no-common}
 use Rattle.plane.specs.Fan.{fan, fan′, fan-end, one-side, steep, cross-lt}
 use Rattle.plane.specs.Only.{only-flip, only-swap}
-use Rattle.net.specs.Side.{strict, Side, rt, lf}
+use Rattle.rules.specs.declared.Style.the-variants.{OneBend}
+use Rattle.net.specs.Side.{Side, rt, lf}
 use Rattle.net.specs.Net.{Net, side, middle, Beyond}
 use Rattle.net.specs.Inv.{Slope, Reach}
 use Rattle.net.specs.Bend.{pt, turn, places, Spot, start, bend, end}
@@ -79,7 +80,7 @@ module _ (g : Net) (p : ℕ) where
       clash rt e = n (omega arith)
       clash lf e = n (omega arith)
 
-  free-free : (s : Side) (q q′ j j′ : ℕ) → j < j′ → Slope s g p q j → Slope s g p q′ j′ → g .y q < g .y q′ → Beyond strict s g q′ q →
+  free-free : (s : Side) (q q′ j j′ : ℕ) → j < j′ → Slope s g p q j → Slope s g p q′ j′ → g .y q < g .y q′ → Beyond OneBend s g q′ q →
       meet (turn g p q (side s j)) (pt g q) (turn g p q′ (side s j′)) (pt g q′) ≡ false
   free-free rt q q′ j j′ lt f f′ y b =
       elim (decLt (g .y p + j) (g .y q)) [
@@ -96,7 +97,7 @@ module _ (g : Net) (p : ℕ) where
   ports-turn rt q q′ j j′ lt f = fan-end (pt g p) _ _ (column-turn (pt g p) (g .x p + (g .d rt p + 1)) (g .y p + j) (g .y p + j′) (omega arith) (omega arith))
   ports-turn lf q q′ j j′ lt f = fan-end (pt g p) _ _ (column-turn (pt g p) (g .x p - (g .d lf p + 1)) (g .y p + j) (g .y p + j′) (omega arith) (omega arith))
 
-  pub ports-only : (s : Side) (q q′ j j′ : ℕ) → j < j′ → Slope s g p q j → Slope s g p q′ j′ → g .y q < g .y q′ → Beyond strict s g q′ q →
+  pub ports-only : (s : Side) (q q′ j j′ : ℕ) → j < j′ → Slope s g p q j → Slope s g p q′ j′ → g .y q < g .y q′ → Beyond OneBend s g q′ q →
       OnlyHalf (pt g p) (places g p q (side s j)) (places g p q′ (side s j′))
   ports-only s q q′ j j′ lt f f′ y b one one = ports-turn s q q′ j j′ lt f
   ports-only s q q′ j j′ lt f f′ y b one two = none _ _ _ _ _ (λ w. port-free s q q′ j j′ (omega arith) f f′ (flip w))
@@ -115,7 +116,7 @@ module _ (g : Net) (q : ℕ) (in-frame : g .y q ≤ g .x q) where
       let e = part-at fy _ _ _ _ _ _ (omega arith) (same refl refl) (more (omega arith)) (under-port p j f) (same refl refl) w in
       n (omega arith)
 
-  steep-free : (p p′ j j′ : ℕ) → j < j′ → Reach g p q j → Reach g p′ q j′ → Beyond strict rt g p p′ → Beyond strict lf g p′ p →
+  steep-free : (p p′ j j′ : ℕ) → j < j′ → Reach g p q j → Reach g p′ q j′ → Beyond OneBend rt g p p′ → Beyond OneBend lf g p′ p →
       Common (pt g p) (turn g p q (middle j)) (pt g p′) (turn g p′ q (middle j′)) → ⊥
   unfolding crossPlus crossMinus
   steep-free p p′ j j′ lt f f′ b c w =
@@ -135,7 +136,7 @@ module _ (g : Net) (q : ℕ) (in-frame : g .y q ≤ g .x q) where
       let a = fan-end (pt g q) (turn g p q (middle j)) (turn g p′ q (middle j′)) (row-turn (pt g q) (g .y q - g .h q) _ _ (omega arith) (omega arith)) in
       only-swap _ _ _ _ _ (only-flip _ _ _ _ _ (only-swap _ _ _ _ _ (only-flip _ _ _ _ _ a)))
 
-  pub mids-only : (p p′ j j′ : ℕ) → j < j′ → Reach g p q j → Reach g p′ q j′ → Beyond strict rt g p p′ → Beyond strict lf g p′ p →
+  pub mids-only : (p p′ j j′ : ℕ) → j < j′ → Reach g p q j → Reach g p′ q j′ → Beyond OneBend rt g p p′ → Beyond OneBend lf g p′ p →
       OnlyHalf (pt g q) (places g p q (middle j)) (places g p′ q (middle j′))
   mids-only p p′ j j′ lt f f′ b c one one = none _ _ _ _ _ (steep-free p p′ j j′ lt f f′ b c)
   mids-only p p′ j j′ lt f f′ b c one two = none _ _ _ _ _ (λ w. mid-free p p′ j j′ (omega arith) f f′ (flip w))

@@ -4,57 +4,57 @@ use mathlib.Core.Path.{_≡_, refl, sym, ap}
 use mathlib.Core.Logic.{_≢_}
 use native.Mathlib.Omega.{arith}
 use native.Mathlib.Decide.{decLe, decLt, ℕ-discrete}
-use Rattle.net.specs.Side.{Tie, Side, rt, lf, op, Cols, Past, at, at-in, cols-eq, cols-op, past-not, cols-past, Which, same, other, which}
-use Rattle.net.specs.Net.{Net, BendKind, side, middle, flat, Beyond, beyond-trans, beyond-not, Clear, beside, above, clear-swap}
-use Rattle.net.specs.Inv.{Points, Aside, Fits, port, within, plain, Lines}
+use Rattle.rules.specs.declared.Style.{Style}
+use Rattle.net.specs.Side.{Side, rt, lf, op, Cols, Past, at, at-in, cols-eq, cols-op, past-not, cols-past, Which, same, other, which}
+use Rattle.net.specs.Net.{Net, Beyond, beyond-trans, beyond-not, Clear, beside, above, clear-swap}
+use Rattle.net.specs.Inv.{Points, Aside, Leans, aside, upright, Lines}
 use Rattle.net.specs.Adds.{Line, old, tip, rib, Adds}
 use Rattle.net.specs.Walls.{keep-beyond, beyond-new, under-new, wall, past-new, upto-new, by-point, tip-m, tip-in, tip-col}
-use Rattle.net.specs.BendKinds.{keep-cols, fits′, ends′}
+use Rattle.net.specs.BendKinds.{leans, keep-cols, fits′, ends′}
 
 -- p and q are the ends of a line, in one order or the other: what 3 and 6 say of them
-record Ends (τ : Tie) (g : Net) (p q : ℕ) : Type 0 where
+record Ends (τ : Style) (g : Net) (p q : ℕ) : Type 0 where
   p-in : p < g .k
   q-in : q < g .k
   slant : (s : Side) → Past s (g .col p) (g .col q) → Beyond τ s g p q
   back : (s : Side) → Past s (g .col q) (g .col p) → Beyond τ s g q p
   clear : (z : ℕ) → z < g .k → z ≢ p → z ≢ q → Clear τ g p q z
 
-swap : {τ : Tie} {g : Net} {p q : ℕ} → Ends τ g p q → Ends τ g q p
+swap : {τ : Style} {g : Net} {p q : ℕ} → Ends τ g p q → Ends τ g q p
 swap n = record { p-in = n .q-in; q-in = n .p-in; slant = n .back; back = n .slant; clear = λ z zk b c. clear-swap (n .clear z zk c b) }
 
-aside-slant : (t s : Side) {τ : Tie} {g : Net} {p q : ℕ} → Aside τ t g p q → Past s (g .col p) (g .col q) → Beyond τ s g p q
+aside-slant : (t s : Side) {τ : Style} {g : Net} {p q : ℕ} → Aside τ t g p q → Past s (g .col p) (g .col q) → Beyond τ s g p q
 aside-slant rt rt f c = f .away
 aside-slant rt lf f c = absurd (omega (arith, f .cols))
 aside-slant lf rt f c = absurd (omega (arith, f .cols))
 aside-slant lf lf f c = f .away
 
-aside-back : (t s : Side) {τ : Tie} {g : Net} {p q : ℕ} → Aside τ t g p q → Past s (g .col q) (g .col p) → Beyond τ s g q p
+aside-back : (t s : Side) {τ : Style} {g : Net} {p q : ℕ} → Aside τ t g p q → Past s (g .col q) (g .col p) → Beyond τ s g q p
 aside-back rt rt f c = absurd (omega (arith, f .cols))
 aside-back rt lf f c = f .back
 aside-back lf rt f c = f .back
 aside-back lf lf f c = absurd (omega (arith, f .cols))
 
-fits-slant : {τ : Tie} {g : Net} {p q : ℕ} (κ : BendKind) → Fits τ g p q κ → (s : Side) → Past s (g .col p) (g .col q) → Beyond τ s g p q
-fits-slant (side t j) (port f b c) s k = aside-slant t s f k
-fits-slant (middle i) (within e b b′) s k = absurd (past-not s k (cols-eq s (sym e)))
-fits-slant flat (plain f c) s k = aside-slant rt s f k
+leans-slant : {τ : Style} {g : Net} {p q : ℕ} → Leans τ g p q → (s : Side) → Past s (g .col p) (g .col q) → Beyond τ s g p q
+leans-slant (aside t f) s k = aside-slant t s f k
+leans-slant (upright e) s k = absurd (past-not s k (cols-eq s (sym e)))
 
-fits-back : {τ : Tie} {g : Net} {p q : ℕ} (κ : BendKind) → Fits τ g p q κ → (s : Side) → Past s (g .col q) (g .col p) → Beyond τ s g q p
-fits-back (side t j) (port f b c) s k = aside-back t s f k
-fits-back (middle i) (within e b b′) s k = absurd (past-not s k (cols-eq s e))
-fits-back flat (plain f c) s k = aside-back rt s f k
+leans-back : {τ : Style} {g : Net} {p q : ℕ} → Leans τ g p q → (s : Side) → Past s (g .col q) (g .col p) → Beyond τ s g q p
+leans-back (aside t f) s k = aside-back t s f k
+leans-back (upright e) s k = absurd (past-not s k (cols-eq s e))
 
-ends-of : {τ : Tie} {g : Net} → Lines τ g → (e : ℕ) → e < g .L → Ends τ g (g .u e) (g .v e)
-ends-of {g} n e el =
+ends-of : {τ : Style} {g : Net} → Lines τ g → (e : ℕ) → e < g .L → Ends τ g (g .u e) (g .v e)
+ends-of {τ} {g} n e el =
+    let f = leans τ (g .kind e) (n .fits e el) in
     record {
       p-in = n .ends e el .0;
       q-in = n .ends e el .1;
-      slant = fits-slant (g .kind e) (n .fits e el);
-      back = fits-back (g .kind e) (n .fits e el);
+      slant = leans-slant f;
+      back = leans-back f;
       clear = λ z. n .tri e z el;
     }
 
-module _ {τ : Tie} {g g′ : Net} {l r : ℕ} (h : Points τ g) (a : Adds τ g g′ l r) where
+module _ {τ : Style} {g g′ : Net} {l r : ℕ} (h : Points τ g) (a : Adds τ g g′ l r) where
   -- an old line and an old point
   keep-clear : {p q z : ℕ} → p < g .k → q < g .k → z < g .k → Clear τ g p q z → Clear τ g′ p q z
   keep-clear pk qk zk (beside s c c′ b b′) =
@@ -164,7 +164,7 @@ module _ {τ : Tie} {g g′ : Net} {l r : ℕ} (h : Points τ g) (a : Adds τ g 
         | no c ↦ clear-swap (ordered (swap n) (omega arith))
       ]
 
-  tri′ : (e p : ℕ) → Lines τ g → Line g g′ l r (a .port) e → p < g′ .k → p ≢ g′ .u e → p ≢ g′ .v e → Clear τ g′ (g′ .u e) (g′ .v e) p
+  tri′ : (e p : ℕ) → Lines τ g → Line τ g g′ l r (a .port) e → p < g′ .k → p ≢ g′ .u e → p ≢ g′ .v e → Clear τ g′ (g′ .u e) (g′ .v e) p
   tri′ e p n (old el eu ev ek) =
       let f = ends-of n e el in
       rw (eu, ev)
@@ -190,6 +190,6 @@ module _ {τ : Tie} {g g′ : Net} {l r : ℕ} (h : Points τ g) (a : Adds τ g 
   lines′ n =
       record {
         ends = λ e el. ends′ h a e n (a .line e el);
-        fits = λ e el. fits′ h a e n (a .line e el);
+        fits = λ e el. fits′ τ h a e n (a .line e el);
         tri = λ e p el. tri′ e p n (a .line e el);
       }

@@ -4,20 +4,21 @@ use mathlib.Core.Path.{_≡_, refl, sym, ap, _∙_}
 use mathlib.Core.Logic.{_≢_}
 use native.Mathlib.Omega.{arith}
 use native.Mathlib.Decide.{decLt, ℕ-discrete}
-use Rattle.net.specs.Side.{Tie, Side, rt, lf, Cols, Past, at, cols-self}
+use Rattle.rules.specs.declared.Style.{Style}
+use Rattle.net.specs.Side.{Side, rt, lf, Cols, Past, at, cols-self}
 use Rattle.net.specs.Net.{Net, Beyond, beyond-trans, beyond-low, beyond-moved, beyond-a}
 use Rattle.net.specs.Inv.{Points}
 use Rattle.net.specs.Adds.{join, On, kept, fresh, Adds}
 
 -- the plan's words for 1 and 2
-pub chain : {τ : Tie} {g : Net} → Points τ g → (i j : ℕ) → i < j → j < g .m → Beyond τ rt g (g .w i) (g .w j) × Beyond τ lf g (g .w j) (g .w i)
+pub chain : {τ : Style} {g : Net} → Points τ g → (i j : ℕ) → i < j → j < g .m → Beyond τ rt g (g .w i) (g .w j) × Beyond τ lf g (g .w j) (g .w i)
 chain {g} h i j lt jm =
     let oi = h .on i (omega arith) in
     let oj = h .on j jm in
     let n : g .w j ≢ g .w i = λ e. omega (arith, ap (g .col) e) in
     (h .walls rt i (g .w j) (omega arith) (oj .0) n (omega arith), h .walls lf j (g .w i) jm (oi .0) (λ e. n (sym e)) (omega arith))
 
-pub cone : {τ : Tie} {g : Net} → Points τ g → (p : ℕ) → p < g .k → p ≢ g .w (g .col p) → (s : Side) → Beyond τ s g (g .w (g .col p)) p
+pub cone : {τ : Style} {g : Net} → Points τ g → (p : ℕ) → p < g .k → p ≢ g .w (g .col p) → (s : Side) → Beyond τ s g (g .w (g .col p)) p
 cone {g} h p pk n rt = h .walls rt (g .col p) p (h .cols p pk) pk n (omega arith)
 cone {g} h p pk n lf = h .walls lf (g .col p) p (h .cols p pk) pk n (omega arith)
 
@@ -49,7 +50,7 @@ new-upto : (s : Side) (l r c : ℕ) → l < r → join l r c ≢ suc l → Cols 
 new-upto rt l r c lr n h = omega arith
 new-upto lf l r c lr n h = omega arith
 
-module _ {τ : Tie} {g g′ : Net} {l r : ℕ} (h : Points τ g) (a : Adds τ g g′ l r) where
+module _ {τ : Style} {g g′ : Net} {l r : ℕ} (h : Points τ g) (a : Adds τ g g′ l r) where
   -- a column on side s moves at least as far to that side
   pub keep-beyond : (s : Side) {p q : ℕ} → p < g .k → q < g .k → Cols s (g .col p) (g .col q) → Beyond τ s g p q → Beyond τ s g′ p q
   keep-beyond s {p} {q} pk qk c = beyond-moved s _ _ (a .x′ p pk) (a .x′ q qk) (a .y′ p pk) (a .y′ q qk) (further s c)

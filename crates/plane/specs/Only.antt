@@ -41,6 +41,10 @@ only-flip e p q r s h w =
       aty = omega (arith, k .aty, ap (λ n. n * e .y) (w .tot));
     }
 
+-- the ends of the second piece exchanged
+pub only-second : (e p q r s : Place) → OnlyAt e p q r s → OnlyAt e p q s r
+only-second e p q r s h = only-flip e s r p q (only-swap e r s p q (only-flip e p q r s h))
+
 -- e is on pq
 e-on : (e p q r s : Place) (w : Common p q r s) → At e w → meet e e p q ≡ true
 e-on e p q r s w k =

@@ -18,6 +18,7 @@ use Rattle.rules.specs.Results.{never-good, same-value, followed, both-pass, te
 use Rattle.rules.specs.Lengths.{length-points}
 use Rattle.rules.specs.Entries.{pointsRead}
 use Rattle.rules.specs.Readings.{entryOf, points-given, tests-of, judge-of, adding, add-entries}
+use Rattle.rules.specs.Styles.{reachPasses}
 use Rattle.rules.specs.Points.{Drawing, w, m}
 use Rattle.rules.specs.Adding.{lOf, rOf, inner, rowHeight, spread, newX, newY, allReach, pointsOf, entryTests, runTests, callTests, judge, placedNew, addEntries, add}
 use Rattle.rules.specs.Calls.{left, after}
@@ -80,7 +81,7 @@ tests-passed d rs es same h =
 unfoldable pub allReached : Drawing → List Entry → ℕ → ℕ → Bool
 allReached d es l r =
     let c = spread l r d in
-    allReach (newX l r c) (newY l r c) (rowHeight (pointsOf es)) c 1 (inner (pointsOf es))
+    reachPasses (d .style) (allReach (newX l r c) (newY l r c) (rowHeight (pointsOf es)) c 1 (inner (pointsOf es)))
 
 -- ---- an accepted call
 

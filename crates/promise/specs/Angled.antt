@@ -16,7 +16,7 @@ use Rattle.net.specs.Aims.{Heads, wide}
 use Rattle.net.specs.Signs.{cross-at, dot-at}
 use Rattle.net.specs.Degs.{deg}
 use Rattle.promise.specs.Nets.{netOf}
-use Rattle.promise.specs.Sound.{Sound}
+use Rattle.promise.specs.Sound.{Bent}
 use Rattle.promise.specs.Promise.{Angled}
 use Rattle.promise.specs.Leaving.{leaving, leaving-heads, end-placed}
 use Rattle.promise.specs.Degree.{degree-is}
@@ -60,7 +60,7 @@ wide-places n a b z q r h k (right w) =
     (enough (2 * n - 1) (dotPlus z q r) (dotMinus z q r) (dot⁺ a b) (dot⁻ a b) (crossMinus z q r) (crossPlus z q r) (cross⁻ a b) (cross⁺ a b) (crossSize z q r)
     (dot-is a b z q r h k) (sym (cross-at a b z q r h k)) (size-minus z q r) w)
 
-module _ (d : Drawing) (s : Sound d) where
+module _ (d : Drawing) (s : Bent d) where
   -- Two different lines at a point leave it at an angle that is wide enough for its degree.
   pub angles : Angled d
   angles p e f el fl n≢ h k =

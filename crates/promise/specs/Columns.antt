@@ -33,6 +33,11 @@ pub k-next : (d : Drawing) (es : List Entry) (l r : ℕ) → next d es l r .k �
 unfolding next
 k-next d es l r = refl
 
+-- It is of the same style.
+pub style-next : (d : Drawing) (es : List Entry) (l r : ℕ) → next d es l r .style ≡ d .style
+unfolding next
+style-next d es l r = refl
+
 -- Its owners are the new owners.
 pub owners-next : (d : Drawing) (es : List Entry) (l r : ℕ) → next d es l r .owners ≡ newOwners d l r
 unfolding next
@@ -80,7 +85,7 @@ module _ (d : Drawing) (g : Rooted d) where
 
 -- So boundary point i of a sound drawing has index i.
 pub index-is : {d : Drawing} → Sound d → (i : ℕ) → i < m d → indexOf (w d i) (d .boundary) ≡ i
-index-is {d} s i h = index-w d (s .rooted) i h (s .inv .core .points .on i h .1)
+index-is {d} s i h = index-w d (s .rooted) i h (s .core .points .on i h .1)
 
 -- ---- the covering
 

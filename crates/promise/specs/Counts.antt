@@ -1,4 +1,4 @@
--- The numbers of a point after an accepted call: old heights and h stay, and of dl and dr only those of the run's ends grow.
+-- The numbers of a point after an accepted call: old heights and h stay, and of dl and dr only those of the run's ends grow, where lines take ports.
 use Prim.Native.Nat.{ℕ, zero, suc, _/_, _<_}
 use mathlib.Core.Path.{_≡_, refl, ap, sym, _∙_}
 use mathlib.Core.Logic.{_≢_}
@@ -8,7 +8,8 @@ use lib.ListN.{length, getD, List·getD-append, length-map}
 use lib.Seq.{getD-at}
 use Rattle.net.specs.Side.{Side, rt, lf, at, at-in}
 use Rattle.rules.specs.declared.Entry.{Entry}
-use Rattle.rules.specs.Basics.{grow, snoc}
+use Rattle.rules.specs.Basics.{alter, snoc}
+use Rattle.rules.specs.Styles.{taken}
 use Rattle.rules.specs.Points.{Drawing, w, m}
 use Rattle.rules.specs.Adding.{pointsOf, rowHeight}
 use Rattle.promise.specs.Nets.{netOf, portsOf}
@@ -18,26 +19,26 @@ use Rattle.promise.specs.Columns.{w-suc, w-placed}
 
 -- ---- plain lists
 
--- A list keeps its length as one element grows.
-pub length-grow : (a : List ℕ) (p : ℕ) → length (grow a p) ≡ length a
-length-grow [] p = refl
-length-grow (x ∷ a) zero = refl
-length-grow (x ∷ a) (suc zero) = refl
-length-grow (x ∷ a) (suc (suc i)) = ap suc (length-grow a (suc i))
+-- A list keeps its length as one element changes.
+pub length-alter : (f : ℕ → ℕ) (a : List ℕ) (p : ℕ) → length (alter f a p) ≡ length a
+length-alter f [] p = refl
+length-alter f (x ∷ a) zero = refl
+length-alter f (x ∷ a) (suc zero) = refl
+length-alter f (x ∷ a) (suc (suc i)) = ap suc (length-alter f a (suc i))
 
--- The element that grows is one more.
-grow-same : (a : List ℕ) (p : ℕ) → p < length a → getD (grow a (suc p)) p 0 ≡ suc (getD a p 0)
-grow-same [] p h = absurd (omega arith)
-grow-same (x ∷ a) zero h = refl
-grow-same (x ∷ a) (suc p) h = grow-same a p (omega arith)
+-- The element that changes.
+alter-same : (f : ℕ → ℕ) (a : List ℕ) (p : ℕ) → p < length a → getD (alter f a (suc p)) p 0 ≡ f (getD a p 0)
+alter-same f [] p h = absurd (omega arith)
+alter-same f (x ∷ a) zero h = refl
+alter-same f (x ∷ a) (suc p) h = alter-same f a p (omega arith)
 
 -- Every other element stays.
-grow-other : (a : List ℕ) (p i : ℕ) → i ≢ p → getD (grow a (suc p)) i 0 ≡ getD a i 0
-grow-other [] p i n = refl
-grow-other (x ∷ a) zero zero n = absurd (n refl)
-grow-other (x ∷ a) zero (suc i) n = refl
-grow-other (x ∷ a) (suc p) zero n = refl
-grow-other (x ∷ a) (suc p) (suc i) n = grow-other a p i (λ e. n (ap suc e))
+alter-other : (f : ℕ → ℕ) (a : List ℕ) (p i : ℕ) → i ≢ p → getD (alter f a (suc p)) i 0 ≡ getD a i 0
+alter-other f [] p i n = refl
+alter-other f (x ∷ a) zero zero n = absurd (n refl)
+alter-other f (x ∷ a) zero (suc i) n = refl
+alter-other f (x ∷ a) (suc p) zero n = refl
+alter-other f (x ∷ a) (suc p) (suc i) n = alter-other f a p i (λ e. n (ap suc e))
 
 -- One more element at the end leaves the others.
 pub getD-snoc : (a : List ℕ) (x p n : ℕ) → length a ≡ n → p < n → getD (snoc a x) p 0 ≡ getD a p 0
@@ -65,7 +66,7 @@ ports-sized d z rt = z .drs
 ports-sized d z lf = z .dls
 
 -- In the new drawing the run's end on that side grew, and the new point has none.
-pub ports-next : (d : Drawing) (es : List Entry) (l r : ℕ) (t : Side) → portList (next d es l r) t ≡ snoc (grow (portList d t) (w d (at t l r))) 0
+pub ports-next : (d : Drawing) (es : List Entry) (l r : ℕ) (t : Side) → portList (next d es l r) t ≡ snoc (alter (taken (d .style)) (portList d t) (w d (at t l r))) 0
 unfolding next
 ports-next d es l r rt = refl
 ports-next d es l r lf = refl
@@ -100,12 +101,12 @@ module _ (d : Drawing) (es : List Entry) (l r : ℕ) (s : Sound d) (q : IsRun d 
 
   -- the ports of a side, where the run's end grew
   grown : Side → List ℕ
-  grown t = grow (portList d t) (suc (netOf d .w (at t l r)))
+  grown t = alter (taken (d .style)) (portList d t) (suc (netOf d .w (at t l r)))
 
   -- It has one number for each old point.
   length-grown : (t : Side) → length (grown t) ≡ d .k
   unfolding grown
-  length-grown t = length-grow (portList d t) (suc (netOf d .w (at t l r))) ∙ ports-sized d (s .sized) t
+  length-grown t = length-alter (taken (d .style)) (portList d t) (suc (netOf d .w (at t l r))) ∙ ports-sized d (s .sized) t
 
   -- Ports in the new drawing are read from it.
   ports-grown : (t : Side) (p : ℕ) → netOf (next d es l r) .d t p ≡ getD (snoc (grown t) 0) p 0
@@ -113,18 +114,18 @@ module _ (d : Drawing) (es : List Entry) (l r : ℕ) (s : Sound d) (q : IsRun d 
   ports-grown t p =
       ports-of (next d es l r) t p ∙
       ap (λ (a : List ℕ). getD a p 0) (ports-next d es l r t) ∙
-      ap (λ (i : ℕ). getD (snoc (grow (portList d t) i) 0) p 0) (sym (w-suc d (s .rooted) (at t l r) (tip-on t)))
+      ap (λ (i : ℕ). getD (snoc (alter (taken (d .style)) (portList d t) i) 0) p 0) (sym (w-suc d (s .rooted) (at t l r) (tip-on t)))
 
-  -- The run's ends get a port each.
-  pub d-tip : (t : Side) → netOf (next d es l r) .d t (netOf d .w (at t l r)) ≡ suc (netOf d .d t (netOf d .w (at t l r)))
+  -- The run's ends get a port each, where lines take ports.
+  pub d-tip : (t : Side) → netOf (next d es l r) .d t (netOf d .w (at t l r)) ≡ taken (d .style) (netOf d .d t (netOf d .w (at t l r)))
   unfolding grown
   d-tip t =
       let p = netOf d .w (at t l r) in
       let h : p < d .k = w-placed d (s .rooted) (at t l r) (tip-on t) in
       ports-grown t p ∙
       getD-snoc (grown t) 0 p (d .k) (length-grown t) h ∙
-      grow-same (portList d t) p (omega (arith, ports-sized d (s .sized) t)) ∙
-      ap suc (sym (ports-of d t p))
+      alter-same (taken (d .style)) (portList d t) p (omega (arith, ports-sized d (s .sized) t)) ∙
+      ap (taken (d .style)) (sym (ports-of d t p))
 
   -- Every other point keeps its ports.
   pub d-old : (t : Side) (p : ℕ) → p < netOf d .k → p ≢ netOf d .w (at t l r) → netOf (next d es l r) .d t p ≡ netOf d .d t p
@@ -132,7 +133,7 @@ module _ (d : Drawing) (es : List Entry) (l r : ℕ) (s : Sound d) (q : IsRun d 
   d-old t p h n =
       ports-grown t p ∙
       getD-snoc (grown t) 0 p (d .k) (length-grown t) h ∙
-      grow-other (portList d t) (netOf d .w (at t l r)) p n ∙
+      alter-other (taken (d .style)) (portList d t) (netOf d .w (at t l r)) p n ∙
       sym (ports-of d t p)
 
   -- The new point has none.

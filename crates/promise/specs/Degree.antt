@@ -9,13 +9,13 @@ use lib.Dec.{eqb, eqb·suc-suc}
 use native.Mathlib.Omega.{arith}
 use borrow.Author.Tests.{eqb-true}
 use Rattle.rules.specs.declared.Kind.the-variants.{Guide}
-use Rattle.rules.specs.declared.Bend.the-variants.{Straight}
+use Rattle.rules.specs.declared.Bend.the-variants.{NoBend}
 use Rattle.rules.specs.Basics.{keep}
 use Rattle.rules.specs.Points.{Drawing, lineAt}
 use Rattle.rules.specs.Demand.{endsAt, degree}
 use Rattle.net.specs.Degs.{tally, hits, deg}
 use Rattle.promise.specs.Nets.{netOf}
-use Rattle.promise.specs.Sound.{Sound}
+use Rattle.promise.specs.Sound.{Bent}
 use Rattle.promise.specs.Leaving.{two-ends}
 
 -- A tally has its first number apart.
@@ -62,16 +62,16 @@ one-end u v p n = go (eqb u p) (eqb v p) refl refl
     go false true q r = rw (q, r)
     go false false q r = rw (q, r)
 
-module _ (d : Drawing) (s : Sound d) (p : ℕ) (p0 : 0 < p) where
+module _ (d : Drawing) (s : Bent d) (p : ℕ) (p0 : 0 < p) where
   -- A line ends at a point once or not at all.
   hits-once : (e : ℕ) → e < length (d .lines) → hits (netOf d) (pred p) e ≡ cond (endsAt p (lineAt d e)) 1 0
   unfolding hits
   hits-once e el =
       let l = lineAt d e in
-      let o = s .ended .ends e el in
+      let o = s .sound .ended .ends e el in
       rw (eqb-pred (l .earlier) p (o .0) p0, eqb-pred (l .later) p (o .1) p0) (one-end (l .earlier) (l .later) p (two-ends d s e el))
 
   -- Both count the same lines.
   pub degree-is : deg (netOf d) (pred p) ≡ degree d p
   unfolding deg
-  degree-is = tally-keep (endsAt p) (record { later = 0; earlier = 0; bend = Straight; kind = Guide }) (hits (netOf d) (pred p)) (d .lines) hits-once
+  degree-is = tally-keep (endsAt p) (record { later = 0; earlier = 0; bend = NoBend; kind = Guide }) (hits (netOf d) (pred p)) (d .lines) hits-once

@@ -1,5 +1,5 @@
 -- NO SUBTRACTION OF THE RULES TRUNCATES: the definitions have no numbers below 0, and in a drawing that calls or files reach none would be below 0.
--- The halves of step 4 are whole, and every port's index is in its range. Every word is a definition of `rules`. Points count from 1, boundary indices and lines from 0.
+-- The halves of step 4 are whole, in both drawings; and in a one-bend drawing every port's index is in its range. Every word is a definition of `rules`. Points count from 1, boundary indices and lines from 0.
 use Prim.Native.Nat.{ℕ, suc, pred, _+_, _-_, _*_, _%_, _<_, _≤_}
 use mathlib.Core.Path.{_≡_, refl, ap, _∙_}
 use mathlib.Core.Logic.{_↔_}
@@ -8,21 +8,24 @@ use mathlib.Core.List.{List, [], _∷_, map}
 use native.Mathlib.Omega.{arith}
 use lib.ListN.{length, getD, take, drop, length-map, length-drop}
 use lib.Seq.{length-take-le, getD-take, getD-drop}
-use Rattle.rules.specs.declared.Kind.the-variants.{Plain}
+use Rattle.rules.specs.declared.Style.{Style}
+use Rattle.rules.specs.declared.Style.the-variants.{OneBend, Straight}
+use Rattle.rules.specs.declared.Kind.the-variants.{Guide}
 use Rattle.rules.specs.declared.Entry.{Entry}
 use Rattle.rules.specs.declared.Bend.{Bend}
-use Rattle.rules.specs.declared.Bend.the-variants.{Left, Right, Middle, Straight}
+use Rattle.rules.specs.declared.Bend.the-variants.{Left, Right, Middle, NoBend}
+use Rattle.rules.specs.Styles.{inset}
 use Rattle.rules.specs.Points.{Drawing, xOf, yOf, dlOf, drOf, hOf, w, m, lineAt}
 use Rattle.rules.specs.Ports.{hasPort}
 use Rattle.rules.specs.Adding.{pointsOf, step1, step2, A, B, spread}
 use Rattle.net.specs.Side.{Side, rt, lf}
 use Rattle.net.specs.Net.{side, middle, flat}
 use Rattle.net.specs.Ports.{aside-of}
-use Rattle.promise.specs.Promise.{IsLine}
+use Rattle.promise.specs.Promise.{IsLine, NoStep3}
 use Rattle.promise.specs.Nets.{bendKind, netOf}
-use Rattle.promise.specs.Sound.{Sound}
+use Rattle.promise.specs.Sound.{Sound, Bent, Unbent, bent}
 use Rattle.promise.specs.Next.{IsRun}
-use Rattle.promise.specs.Places.{exact₃, exact₄, even}
+use Rattle.promise.specs.Places.{exact₃, exact₄, even, even₂}
 use Rattle.promise.specs.Spots.{ported}
 
 -- ---- the claim: ports
@@ -49,9 +52,9 @@ NoPort d = (e : ℕ) → IsLine d e → (hasPort (lineAt d e) ≡ false) ↔ (e 
 
 -- ---- the claim: steps 3 and 4, over every run wl, .., wr that a call could take
 
--- "A = (x - y of wl) + 1 and B = (x + y of wr) - 1": neither difference is below 0 in the drawing c.
+-- "A = (x - y of wl) + 1 and B = (x + y of wr) - 1", the 1 where lines bend: neither difference is below 0 in the drawing c.
 abbrev pub NotBelow : ℕ → ℕ → Drawing → Type 0
-NotBelow l r c = (yOf c (w c l) ≤ xOf c (w c l)) × (1 ≤ xOf c (w c r) + yOf c (w c r))
+NotBelow l r c = (yOf c (w c l) ≤ xOf c (w c l)) × (inset (c .style) ≤ xOf c (w c r) + yOf c (w c r))
 
 -- Step 3 reads A and B after steps 1 and 2.
 abbrev pub Step3 : Drawing → Type 0
@@ -63,18 +66,29 @@ Step4 d =
     (l r : ℕ) → l < r → r < m d →
     (let c = spread l r d in NotBelow l r c × (A l c ≤ B r c) × ((A l c + B r c) % 2 ≡ 0) × ((B r c - A l c) % 2 ≡ 0))
 
+-- ---- both
+
+-- of either drawing
+pub record ExactSteps (d : Drawing) : Type 0 where
+  pub step3 : Step3 d
+  pub step4 : Step4 d
+
+-- of a one-bend drawing
 pub record Exact (d : Drawing) : Type 0 where
   pub right : RightPorts d
   pub left : LeftPorts d
   pub middle : MiddlePorts d
   pub first : FirstLine d
   pub noPort : NoPort d
-  pub step3 : Step3 d
-  pub step4 : Step4 d
+  pub steps : ExactSteps d
+
+abbrev pub ExactBy : Style → Drawing → Type 0
+ExactBy OneBend d = Exact d
+ExactBy Straight d = ExactSteps d
 
 -- ---- the proof: ports
 
-module _ (d : Drawing) (s : Sound d) where
+module _ (d : Drawing) (s : Bent d) where
   -- a port on a side is one of those that its owner has there
   on-side : (t : Side) (e j : ℕ) → IsLine d e → bendKind (lineAt d e .bend) ≡ side t j → (0 < j) × (j ≤ netOf d .d t (netOf d .u e))
   on-side t e j el q = let f = aside-of (netOf d .kind e) q (s .inv .core .lines .fits e el) in (f .1, f .2)
@@ -104,7 +118,7 @@ module _ (d : Drawing) (s : Sound d) where
   first-line =
       let some = s .inv .frees .some in
       let g : (pred (lineAt d 0 .earlier) ≡ 0) × (pred (lineAt d 0 .later) ≡ 1) = s .inv .frees .ground in
-      let n = s .ended .ends 0 some in
+      let n = s .sound .ended .ends 0 some in
       (some, omega (arith, g .1, n .1), omega (arith, g .0, n .0))
 
   -- the heights of its ends, and the x of point 1
@@ -129,7 +143,7 @@ module _ (d : Drawing) (s : Sound d) where
   none-first (Left j) q = absurd (not-side lf j (ap bendKind q))
   none-first (Right j) q = absurd (not-side rt j (ap bendKind q))
   none-first (Middle i) q = absurd (not-middle i (ap bendKind q))
-  none-first Straight q = refl
+  none-first NoBend q = refl
 
   -- and no other line is without one
   no-port : NoPort d
@@ -140,7 +154,7 @@ module _ (d : Drawing) (s : Sound d) where
       straight (Left j) q = absurd (true≢false q)
       straight (Right j) q = absurd (true≢false q)
       straight (Middle i) q = absurd (true≢false q)
-      straight Straight q = refl
+      straight NoBend q = refl
 
 -- ---- the proof: steps 3 and 4
 
@@ -149,11 +163,11 @@ even-difference : (a b : ℕ) → a ≤ b → (a + b) % 2 ≡ 0 → (b - a) % 2 
 even-difference a b h e = omega arith
 
 -- an entry for each point
-abbrev plainTo : ℕ → Entry
-plainTo p = record { point = p; kind = Plain }
+abbrev guideTo : ℕ → Entry
+guideTo p = record { point = p; kind = Guide }
 
 -- they name those points
-points-back : (ps : List ℕ) → pointsOf (map plainTo ps) ≡ ps
+points-back : (ps : List ℕ) → pointsOf (map guideTo ps) ≡ ps
 points-back [] = refl
 points-back (p ∷ ps) = ap (λ (l : List ℕ). p ∷ l) (points-back ps)
 
@@ -163,7 +177,7 @@ module _ (d : Drawing) (l r : ℕ) (lr : l < r) (rm : r < m d) where
   run = take (suc r - l) (drop l (d .boundary))
 
   abbrev entries : List Entry
-  entries = map plainTo run
+  entries = map guideTo run
 
   -- there are r - l + 1
   run-length : length run ≡ suc r - l
@@ -175,20 +189,16 @@ module _ (d : Drawing) (l r : ℕ) (lr : l < r) (rm : r < m d) where
       record {
         lr = lr;
         rm = rm;
-        size = omega (arith, length-map run plainTo, run-length);
+        size = omega (arith, length-map run guideTo, run-length);
         point = λ i b.
             ap (λ (ps : List ℕ). getD ps i 0) (points-back run) ∙ getD-take (suc r - l) (drop l (d .boundary)) i 0 (omega arith) ∙ getD-drop l (d .boundary) i 0;
       }
 
--- A SOUND DRAWING IS EXACT.
-pub sound-exact : (d : Drawing) → Sound d → Exact d
-sound-exact d s =
+-- ---- A SOUND DRAWING IS EXACT.
+
+pub steps-exact : (d : Drawing) → Sound d → ExactSteps d
+steps-exact d s =
     record {
-      right = right-ports d s;
-      left = left-ports d s;
-      middle = middle-ports d s;
-      first = first-line d s;
-      noPort = no-port d s;
       step3 = λ l r lr rm. let z = exact₃ d (entries d l r lr rm) l r s (is-run d l r lr rm) in (z .left, z .right);
       step4 = λ l r lr rm.
           let q = is-run d l r lr rm in
@@ -196,3 +206,26 @@ sound-exact d s =
           let v = even d (entries d l r lr rm) l r s q in
           ((z .left, z .right), z .order, v, even-difference _ _ (z .order) v);
     }
+
+pub bent-exact : (d : Drawing) → Bent d → Exact d
+bent-exact d s =
+    record {
+      right = right-ports d s;
+      left = left-ports d s;
+      middle = middle-ports d s;
+      first = first-line d s;
+      noPort = no-port d s;
+      steps = steps-exact d (s .sound);
+    }
+
+-- in a straight drawing step 3 would never move anything
+pub no-step-3 : (d : Drawing) → Unbent d → NoStep3 d
+no-step-3 d s l r lr rm = even₂ d (entries d l r lr rm) l r (s .sound) (is-run d l r lr rm) (s .style)
+
+-- so every sound drawing is exact, by its style
+pub sound-exact : (d : Drawing) → Sound d → ExactBy (d .style) d
+sound-exact d s = go (d .style) refl
+  where
+    go : (τ : Style) → d .style ≡ τ → ExactBy τ d
+    go OneBend b = bent-exact d (bent s b)
+    go Straight b = steps-exact d s

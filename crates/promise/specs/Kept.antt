@@ -10,7 +10,8 @@ use lib.ListN.{length, getD}
 use Rattle.net.specs.Side.{rt, lf, at}
 use Rattle.net.specs.Adds.{Owning}
 use Rattle.rules.specs.declared.Entry.{Entry}
-use Rattle.rules.specs.Basics.{if_then_else_, indexOf, snoc, grow}
+use Rattle.rules.specs.Basics.{if_then_else_, indexOf, snoc, alter}
+use Rattle.rules.specs.Styles.{taken}
 use Rattle.rules.specs.Points.{Drawing, ownerOf, w, m}
 use Rattle.rules.specs.Lengths.{length-snoc}
 use Rattle.rules.specs.Moving.{climb}
@@ -23,7 +24,7 @@ use Rattle.promise.specs.Index.{index-at}
 use Rattle.promise.specs.Columns.{newOwners, k-next, owners-next, length-owned, column-on, w-suc, index-is, inside-true, true-inside, false-inside, took, climb-next, climb-new}
 use Rattle.promise.specs.Border.{Stands, old, put, stands-next}
 use Rattle.promise.specs.Moved.{length-spread}
-use Rattle.promise.specs.Counts.{length-grow, ports-next, hs-next, ys-next}
+use Rattle.promise.specs.Counts.{length-alter, ports-next, hs-next, ys-next}
 
 -- ---- sizes
 
@@ -46,8 +47,8 @@ module _ (d : Drawing) (es : List Entry) (l r : ℕ) (s : Sound d) (q : IsRun d 
         owners = one-more o 0 (owners-next d es l r) (length-owned (inside l r (d .boundary)) (suc (d .k)) 1 (d .owners) ∙ z .owners);
         xs = one-more (spread l r d .xs) (xs-next d es l r .0) (xs-next d es l r .1) (length-spread d l r ∙ z .xs);
         ys = one-more (d .ys) (ys-next d es l r .0) (ys-next d es l r .1) (z .ys);
-        dls = one-more (grow (d .dls) (w d r)) 0 (ports-next d es l r lf) (length-grow (d .dls) (w d r) ∙ z .dls);
-        drs = one-more (grow (d .drs) (w d l)) 0 (ports-next d es l r rt) (length-grow (d .drs) (w d l) ∙ z .drs);
+        dls = one-more (alter (taken (d .style)) (d .dls) (w d r)) 0 (ports-next d es l r lf) (length-alter (taken (d .style)) (d .dls) (w d r) ∙ z .dls);
+        drs = one-more (alter (taken (d .style)) (d .drs) (w d l)) 0 (ports-next d es l r rt) (length-alter (taken (d .style)) (d .drs) (w d l) ∙ z .drs);
         hs = one-more (d .hs) (rowHeight (pointsOf es)) (hs-next d es l r) (z .hs);
       }
 

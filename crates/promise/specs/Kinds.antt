@@ -1,9 +1,10 @@
--- PLACES DON'T DEPEND ON KINDS: guide, plain or feeder, entries that name the same points get the same answers and the same drawing but for the kinds of its lines.
+-- PLACES DON'T DEPEND ON KINDS, in both drawings: guide, plain or feeder, entries that name the same points get the same answers and the same drawing but for the kinds of its lines.
 use Prim.Native.Nat.{ℕ, suc, _/_, _%_}
 use mathlib.Core.Path.{_≡_, refl, sym, ap, ap₂, _∙_}
 use mathlib.Core.Bool.{Bool, false, not}
 use mathlib.Core.List.{List, [], _∷_, _++_, map}
 use native.Mathlib.Omega.{arith}
+use Rattle.rules.specs.declared.Style.{Style}
 use Rattle.rules.specs.declared.Kind.the-variants.{Plain}
 use Rattle.rules.specs.declared.Line.{Line}
 use Rattle.rules.specs.declared.Entry.{Entry}
@@ -17,6 +18,7 @@ use Rattle.rules.specs.Refusals.{Result, good, refused, answer, _>>_, refuseIf}
 use Rattle.rules.specs.Entries.{pointLimit, reading, readEntry, isBoth, pointsRead}
 use Rattle.rules.specs.Readings.{entryOf, entries-read, points-given, testsWith, tests-of, judge-of, adding}
 use Rattle.rules.specs.Lengths.{map-append}
+use Rattle.rules.specs.Styles.{bent, reachPasses}
 use Rattle.rules.specs.Points.{Drawing, opening, xOf, yOf, dlOf, drOf, w, W}
 use Rattle.rules.specs.Adding.{lOf, rOf, D, pointsOf, inner, rowHeight, spread, newX, newY, change, allReach, newBend, newLines, entryTests, reachTest, callTests, judge, placedNew, addRead, addEntries, add}
 use Rattle.rules.specs.Calls.{left, after, answers, drawn, said}
@@ -24,7 +26,7 @@ use Rattle.rules.specs.Calls.{left, after, answers, drawn, said}
 -- a drawing with other lines
 abbrev withLines : Drawing → List Line → Drawing
 withLines d ls =
-    record { n = d .n; s = d .s; k = d .k; boundary = d .boundary; owners = d .owners; xs = d .xs; ys = d .ys; dls = d .dls; drs = d .drs; hs = d .hs; lines = ls }
+    record { style = d .style; n = d .n; s = d .s; k = d .k; boundary = d .boundary; owners = d .owners; xs = d .xs; ys = d .ys; dls = d .dls; drs = d .drs; hs = d .hs; lines = ls }
 
 -- a drawing with every line plain: all else of it stays
 abbrev pub plainLine : Line → Line
@@ -69,7 +71,7 @@ module _ (d : Drawing) where
       let l = lOf d run in
       let r = rOf d run in
       let c = spread l r d in
-      ap₂ (λ (t : Result (Unit {0})) (b : Bool). t >> refuseIf (not b) NoReach 0) (tests-plain rs) (reach-plain (newX l r c) (newY l r c) (rowHeight run) c 1 (inner run))
+      ap₂ (λ (t : Result (Unit {0})) (b : Bool). t >> refuseIf (not (reachPasses (d .style) b)) NoReach 0) (tests-plain rs) (reach-plain (newX l r c) (newY l r c) (rowHeight run) c 1 (inner run))
 
 -- ---- nor at a kind
 
@@ -110,7 +112,7 @@ module _ (d : Drawing) where
       let x = newX l r c in
       let y = newY l r c in
       let h = rowHeight run in
-      let bends : ℕ → ℕ → Bend = λ from. newBend (drOf c (w c l)) (dlOf c (w c r)) (D run) from in
+      let bends : ℕ → ℕ → Bend = λ from i. bent (d .style) (newBend (drOf c (w c l)) (dlOf c (w c r)) (D run) from i) in
       let new = suc (d .k) in
       let from = change x y h c 1 (inner run) in
       ap (withLines (placedNew d es run))
@@ -165,8 +167,9 @@ calls-plain d (call ∷ calls) h =
     )
 
 -- Calls without their marks get the same answers, and the drawing with every line plain.
-pub as-plain : (n : ℕ) (calls : List (List ℕ)) → OneKind calls → (drawn n (map unmarked calls) ≡ plainly (drawn n calls)) × (said n (map unmarked calls) ≡ said n calls)
-as-plain n calls h = calls-plain (opening n) calls h
+pub as-plain : (τ : Style) (n : ℕ) (calls : List (List ℕ)) → OneKind calls →
+    (drawn τ n (map unmarked calls) ≡ plainly (drawn τ n calls)) × (said τ n (map unmarked calls) ≡ said τ n calls)
+as-plain τ n calls h = calls-plain (opening τ n) calls h
 
 -- what two drawings share: all but the kinds of their lines
 pub record SamePlaces (d e : Drawing) : Type 0 where
@@ -176,11 +179,12 @@ pub record SamePlaces (d e : Drawing) : Type 0 where
   pub width : W d ≡ W e
 
 -- THE LAW: two lists of calls whose entries name the same points, each marked guide, plain or feeder in any way.
-pub same-places : (n : ℕ) (a b : List (List ℕ)) → OneKind a → OneKind b → map unmarked a ≡ map unmarked b → (said n a ≡ said n b) × SamePlaces (drawn n a) (drawn n b)
-same-places n a b ha hb e =
-    let pa = as-plain n a ha in
-    let pb = as-plain n b hb in
-    let same : plainly (drawn n a) ≡ plainly (drawn n b) = sym (pa .0) ∙ ap (drawn n) e ∙ pb .0 in (
-      sym (pa .1) ∙ ap (said n) e ∙ pb .1,
+pub same-places : (τ : Style) (n : ℕ) (a b : List (List ℕ)) → OneKind a → OneKind b → map unmarked a ≡ map unmarked b →
+    (said τ n a ≡ said τ n b) × SamePlaces (drawn τ n a) (drawn τ n b)
+same-places τ n a b ha hb e =
+    let pa = as-plain τ n a ha in
+    let pb = as-plain τ n b hb in
+    let same : plainly (drawn τ n a) ≡ plainly (drawn τ n b) = sym (pa .0) ∙ ap (drawn τ n) e ∙ pb .0 in (
+      sym (pa .1) ∙ ap (said τ n) e ∙ pb .1,
       record { all = same; x = λ p. ap (λ (d : Drawing). xOf d p) same; y = λ p. ap (λ (d : Drawing). yOf d p) same; width = ap W same },
     )

@@ -9,7 +9,7 @@ use native.Mathlib.Omega.{arith}
 use borrow.Author.Tests.{eq-eqb, ne-eqb, eqb-true}
 use Rattle.rules.specs.declared.Kind.{Kind}
 use Rattle.rules.specs.declared.Bend.{Bend}
-use Rattle.rules.specs.declared.Bend.the-variants.{Left, Right, Middle, Straight}
+use Rattle.rules.specs.declared.Bend.the-variants.{Left, Right, Middle, NoBend}
 use Rattle.rules.specs.declared.Line.{Line}
 use Rattle.rules.specs.declared.Place.{Place}
 use Rattle.rules.specs.Basics.{if_then_else_}
@@ -21,8 +21,8 @@ use Rattle.net.specs.Ports.{aside-of}
 use Rattle.net.specs.Bend.{turn, spot, bend}
 use Rattle.net.specs.Aims.{Leaves, turning, straight, Heads, Aimed, aim-start, aim-end}
 use Rattle.promise.specs.Nets.{netOf, bendKind}
-use Rattle.promise.specs.Sound.{Sound}
-use Rattle.promise.specs.Spots.{turn-port}
+use Rattle.promise.specs.Sound.{Bent}
+use Rattle.promise.specs.Spots.{turn-bend}
 
 -- ---- the place for which a line with the bend b and the other end q leaves z
 
@@ -55,7 +55,7 @@ abbrev Far : Drawing → ℕ → Bend → Type 0
 Far d v (Left j) = 0 < j
 Far d v (Right j) = 0 < j
 Far d v (Middle i) = (0 < hOf d v) × (hOf d v ≤ yOf d v)
-Far d v Straight = Unit {0}
+Far d v NoBend = Unit {0}
 
 module _ (d : Drawing) (v u : ℕ) (c : Kind) (apart : u ≢ v) where
   abbrev line : Bend → Line
@@ -68,20 +68,20 @@ module _ (d : Drawing) (v u : ℕ) (c : Kind) (apart : u ≢ v) where
   -- at the earlier end
   start-to : (b : Bend) {t : Place} → Far d v b → Leaves (placeOf d u) (bent b) (placeOf d v) t → t ≡ towards d u (line b)
   start-to (Left j) f l = rw (eq-eqb u u refl) (leaves-turn (λ a b. omega arith) l)
-  start-to (Right j) f l = rw (eq-eqb u u refl) (leaves-turn (λ a b. omega arith) l ∙ turn-port d v u (Right j) refl)
+  start-to (Right j) f l = rw (eq-eqb u u refl) (leaves-turn (λ a b. omega arith) l ∙ turn-bend d v u (Right j))
   start-to (Middle i) f l = rw (ne-eqb v u (λ e. apart (sym e))) (leaves-free l)
-  start-to Straight f l = rw (ne-eqb v u (λ e. apart (sym e))) (leaves-here l)
+  start-to NoBend f l = rw (ne-eqb v u (λ e. apart (sym e))) (leaves-here l)
 
   -- at the later end
   end-to : (b : Bend) {t : Place} → Far d v b → Leaves (placeOf d v) (bent b) (placeOf d u) t → t ≡ towards d v (line b)
   end-to (Left j) f l = rw (ne-eqb u v apart, eq-eqb v v refl) (leaves-free l)
-  end-to (Right j) f l = rw (ne-eqb u v apart, eq-eqb v v refl) (leaves-free (rw (turn-port d v u (Right j) refl) at l))
+  end-to (Right j) f l = rw (ne-eqb u v apart, eq-eqb v v refl) (leaves-free (rw (turn-bend d v u (Right j)) at l))
   end-to (Middle i) f l = rw (eq-eqb v v refl) (leaves-turn (λ a b. omega arith) l)
-  end-to Straight f l = rw (eq-eqb v v refl) (leaves-same l)
+  end-to NoBend f l = rw (eq-eqb v v refl) (leaves-same l)
 
--- ---- in a sound drawing
+-- ---- in a one-bend drawing
 
-module _ (d : Drawing) (s : Sound d) (e : ℕ) (el : e < length (d .lines)) where
+module _ (d : Drawing) (s : Bent d) (e : ℕ) (el : e < length (d .lines)) where
   -- The port of a line is not at its owner.
   far : Far d (lineAt d e .later) (lineAt d e .bend)
   far = go (lineAt d e .bend) refl
@@ -90,19 +90,19 @@ module _ (d : Drawing) (s : Sound d) (e : ℕ) (el : e < length (d .lines)) wher
       go (Left j) q = aside-of (bendKind (lineAt d e .bend)) (ap bendKind q) (s .inv .core .lines .fits e el) .1
       go (Right j) q = aside-of (bendKind (lineAt d e .bend)) (ap bendKind q) (s .inv .core .lines .fits e el) .1
       go (Middle i) q = let r = s .inv .slopes .reach i e el (ap bendKind q) in (omega arith, omega arith)
-      go Straight q = tt
+      go NoBend q = tt
 
   -- A line has two different ends.
   pub two-ends : lineAt d e .earlier ≢ lineAt d e .later
   two-ends q = omega (arith, s .inv .core .alike .up e el, ap pred q)
 
 -- An end of a line is a placed point.
-pub end-placed : (d : Drawing) → Sound d → (p e : ℕ) → e < length (d .lines) → endsAt p (lineAt d e) ≡ true → (0 < p) × (pred p < d .k)
+pub end-placed : (d : Drawing) → Bent d → (p e : ℕ) → e < length (d .lines) → endsAt p (lineAt d e) ≡ true → (0 < p) × (pred p < d .k)
 end-placed d s p e el h = by-end (either _ _ h)
   where
     by-end : (eqb (lineAt d e .later) p ≡ true) ⊎ (eqb (lineAt d e .earlier) p ≡ true) → (0 < p) × (pred p < d .k)
-    by-end (inl q) = subst (λ z. (0 < z) × (pred z < d .k)) (eqb-true _ _ q) (s .ended .ends e el .1, s .inv .core .lines .ends e el .1)
-    by-end (inr q) = subst (λ z. (0 < z) × (pred z < d .k)) (eqb-true _ _ q) (s .ended .ends e el .0, s .inv .core .lines .ends e el .0)
+    by-end (inl q) = subst (λ z. (0 < z) × (pred z < d .k)) (eqb-true _ _ q) (s .sound .ended .ends e el .1, s .inv .core .lines .ends e el .1)
+    by-end (inr q) = subst (λ z. (0 < z) × (pred z < d .k)) (eqb-true _ _ q) (s .sound .ended .ends e el .0, s .inv .core .lines .ends e el .0)
 
 -- The line e leaves its end p for a place that the net gives too.
 pub record Leaving (d : Drawing) (p e : ℕ) : Type 0 where
@@ -115,7 +115,7 @@ pub leaving-heads : {d : Drawing} {p e : ℕ} (l : Leaving d p e) → Heads (l .
 leaving-heads l = rw (l .there) at (l .aimed .heads)
 
 -- Every line leaves both its ends so.
-pub leaving : (d : Drawing) → Sound d → (p e : ℕ) → e < length (d .lines) → endsAt p (lineAt d e) ≡ true → Leaving d p e
+pub leaving : (d : Drawing) → Bent d → (p e : ℕ) → e < length (d .lines) → endsAt p (lineAt d e) ≡ true → Leaving d p e
 leaving d s p e el h = by-end (either _ _ h)
   where
     l : Line

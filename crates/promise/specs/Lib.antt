@@ -1,7 +1,7 @@
+pub mod Next
 pub mod Promise
 pub mod Nets
 pub mod Sound
-pub mod Next
 pub mod Climb
 pub mod Index
 pub mod Columns
@@ -26,6 +26,8 @@ pub mod Degree
 pub mod Angled
 pub mod Planar
 pub mod Exact
+pub mod Frames
+pub mod Bounds
+pub mod Straight
 pub mod Theorem
 pub mod Kinds
-pub mod Bounds

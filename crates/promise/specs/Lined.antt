@@ -13,7 +13,7 @@ use Rattle.rules.specs.declared.Line.{Line}
 use Rattle.rules.specs.declared.Entry.{Entry}
 use Rattle.rules.specs.declared.Bend.{Bend}
 use Rattle.rules.specs.declared.Bend.the-variants.{Left, Middle}
-use Rattle.rules.specs.Basics.{nth, grow}
+use Rattle.rules.specs.Basics.{nth, alter}
 use Rattle.rules.specs.Lengths.{length-new}
 use Rattle.rules.specs.Adding.{newLines, newBend, middleOf, pointsOf}
 
@@ -64,9 +64,9 @@ bend-last a b last from i z e = rw (ne-eqb i 0 (omega arith), eq-eqb i last e)
 pub bend-inner : (a b last from i : ℕ) → 0 < i → i < last → newBend a b last from i ≡ Middle (middleOf from i)
 bend-inner a b last from i z e = rw (ne-eqb i 0 (omega arith), ne-eqb i last (omega arith))
 
--- element p after it grew
-pub grow-at : (l : List ℕ) (p : ℕ) → 0 < p → p ≤ length l → nth (grow l p) p 0 ≡ suc (nth l p 0)
-grow-at [] p z h = absurd (omega arith)
-grow-at (a ∷ l) zero z h = absurd (omega arith)
-grow-at (a ∷ l) (suc zero) z h = refl
-grow-at (a ∷ l) (suc (suc i)) z h = grow-at l (suc i) (omega arith) (le-of-suc-le-suc h)
+-- element p after it changed
+pub alter-at : (f : ℕ → ℕ) (l : List ℕ) (p : ℕ) → 0 < p → p ≤ length l → nth (alter f l p) p 0 ≡ f (nth l p 0)
+alter-at f [] p z h = absurd (omega arith)
+alter-at f (a ∷ l) zero z h = absurd (omega arith)
+alter-at f (a ∷ l) (suc zero) z h = refl
+alter-at f (a ∷ l) (suc (suc i)) z h = alter-at f l (suc i) (omega arith) (le-of-suc-le-suc h)

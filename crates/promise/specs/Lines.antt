@@ -9,14 +9,18 @@ use lib.ListN.{length, getD}
 use Rattle.rules.specs.declared.Kind.the-variants.{Guide}
 use Rattle.rules.specs.declared.Entry.{Entry}
 use Rattle.rules.specs.declared.Line.{Line as Drawn}
+use Rattle.rules.specs.declared.Style.{Style}
+use Rattle.rules.specs.declared.Style.the-variants.{OneBend, Straight}
 use Rattle.rules.specs.declared.Bend.{Bend}
-use Rattle.rules.specs.declared.Bend.the-variants.{Left, Right, Middle, Straight}
-use Rattle.rules.specs.Basics.{nth, grow}
+use Rattle.rules.specs.declared.Bend.the-variants.{Left, Right, Middle, NoBend}
+use Rattle.rules.specs.Basics.{nth, alter}
+use Rattle.rules.specs.Styles.{taken, bent}
 use Rattle.rules.specs.Points.{Drawing, xOf, yOf, dlOf, drOf, w, lineAt}
 use Rattle.rules.specs.Adding.{pointsOf, spread, change, newX, newY, rowHeight, inner, newBend, newLines, middleOf, D}
 use Rattle.rules.specs.Adding.{reaches as test}
-use Rattle.net.specs.Side.{strict, rt, lf}
-use Rattle.net.specs.Inv.{Reach}
+use Rattle.net.specs.Side.{rt, lf}
+use Rattle.net.specs.Net.{sideKind, middleKind}
+use Rattle.net.specs.Inv.{Reach, Inv}
 use Rattle.net.specs.Adds.{Line, old, tip, rib}
 use Rattle.net.specs.Amounts.{Amounts}
 use Rattle.net.specs.Row.{Hits, First, portAt}
@@ -27,7 +31,7 @@ use Rattle.promise.specs.Next.{IsRun, next}
 use Rattle.promise.specs.Moved.{length-spread}
 use Rattle.promise.specs.Counts.{getD-snoc, snoc-new}
 use Rattle.rules.specs.Lengths.{length-points}
-use Rattle.promise.specs.Lined.{OfEntry, Read, was, entry, read, length-lines, bend-last, bend-inner, grow-at}
+use Rattle.promise.specs.Lined.{OfEntry, Read, was, entry, read, length-lines, bend-last, bend-inner, alter-at}
 use Rattle.promise.specs.Change.{getD-inner, length-inner, reached, unreached, change-start, change-end, first-before, first-at, middle-rising}
 
 -- the first inner point that its own port doesn't reach
@@ -42,7 +46,7 @@ port d es l r i = portAt l (changeOf d es l r) i
 -- the bend of entry i's line
 unfoldable bendAt : Drawing → List Entry → ℕ → ℕ → ℕ → Bend
 bendAt d es l r i =
-    newBend (nth (grow (d .drs) (w d l)) (w d l) 0) (nth (grow (d .dls) (w d r)) (w d r) 0) (D (pointsOf es)) (changeOf d es l r) i
+    bent (d .style) (newBend (nth (alter (taken (d .style)) (d .drs) (w d l)) (w d l) 0) (nth (alter (taken (d .style)) (d .dls) (w d r)) (w d r) 0) (D (pointsOf es)) (changeOf d es l r) i)
 
 -- port i of the new point reaches point p
 unfoldable Test : Drawing → List Entry → ℕ → ℕ → ℕ → ℕ → Bool
@@ -51,7 +55,21 @@ Test d es l r i p =
 
 -- what `lineAt` gives where there is no line
 abbrev noLine : Drawn
-noLine = record { later = 0; earlier = 0; bend = Straight; kind = Guide }
+noLine = record { later = 0; earlier = 0; bend = NoBend; kind = Guide }
+
+-- ---- the kinds of the bends, by the style
+
+right-kind : (τ : Style) (j : ℕ) → bendKind (bent τ (Right j)) ≡ sideKind τ rt j
+right-kind OneBend j = refl
+right-kind Straight j = refl
+
+left-kind : (τ : Style) (j : ℕ) → bendKind (bent τ (Left j)) ≡ sideKind τ lf j
+left-kind OneBend j = refl
+left-kind Straight j = refl
+
+middle-kind : (τ : Style) (i : ℕ) → bendKind (bent τ (Middle i)) ≡ middleKind τ i
+middle-kind OneBend i = refl
+middle-kind Straight i = refl
 
 -- ---- what the new drawing's lists hold
 
@@ -93,60 +111,62 @@ module _ (d : Drawing) (es : List Entry) (l r : ℕ) (s : Sound d) (q : IsRun d 
   low : (i : ℕ) → i ≤ r → (0 < w d i) × (w d i ≤ d .k)
   low i ir = s .rooted .low i (omega (arith, q .rm))
 
-  -- the counts of the ends of the run have grown by 1
-  rights : nth (grow (d .drs) (w d l)) (w d l) 0 ≡ suc (drOf d (w d l))
-  rights = let b = low l (omega (arith, q .lr)) in grow-at (d .drs) (w d l) (b .0) (omega (arith, s .sized .drs))
+  -- the counts of the ends of the run have grown
+  rights : nth (alter (taken (d .style)) (d .drs) (w d l)) (w d l) 0 ≡ taken (d .style) (drOf d (w d l))
+  rights = let b = low l (omega (arith, q .lr)) in alter-at (taken (d .style)) (d .drs) (w d l) (b .0) (omega (arith, s .sized .drs))
 
-  lefts : nth (grow (d .dls) (w d r)) (w d r) 0 ≡ suc (dlOf d (w d r))
-  lefts = let b = low r (omega arith) in grow-at (d .dls) (w d r) (b .0) (omega (arith, s .sized .dls))
+  lefts : nth (alter (taken (d .style)) (d .dls) (w d r)) (w d r) 0 ≡ taken (d .style) (dlOf d (w d r))
+  lefts = let b = low r (omega arith) in alter-at (taken (d .style)) (d .dls) (w d r) (b .0) (omega (arith, s .sized .dls))
 
   -- the last entry's index
   last : D (pointsOf es) ≡ r - l
   last = omega (arith, length-points es, size)
 
   -- where the lines bend: at the new highest port of an end, and at the middle ports
-  bend-l : bendAt d es l r 0 ≡ Right (suc (drOf d (w d l)))
+  bend-l : bendKind (bendAt d es l r 0) ≡ sideKind (d .style) rt (taken (d .style) (drOf d (w d l)))
   unfolding bendAt
-  bend-l = ap Right rights
+  bend-l = right-kind (d .style) _ ∙ ap (sideKind (d .style) rt) rights
 
-  bend-r : bendAt d es l r (r - l) ≡ Left (suc (dlOf d (w d r)))
+  bend-r : bendKind (bendAt d es l r (r - l)) ≡ sideKind (d .style) lf (taken (d .style) (dlOf d (w d r)))
   unfolding bendAt
   bend-r =
-      bend-last (nth (grow (d .drs) (w d l)) (w d l) 0) (nth (grow (d .dls) (w d r)) (w d r) 0) (D (pointsOf es)) (changeOf d es l r) (r - l) (omega (arith, q .lr)) (sym last) ∙
-      ap Left lefts
+      ap (λ b. bendKind (bent (d .style) b)) (bend-last _ _ (D (pointsOf es)) (changeOf d es l r) (r - l) (omega (arith, q .lr)) (sym last)) ∙
+      left-kind (d .style) _ ∙
+      ap (sideKind (d .style) lf) lefts
 
-  bend-m : (i : ℕ) → 0 < i → i < r - l → bendAt d es l r i ≡ Middle (port d es l r (l + i))
+  bend-m : (i : ℕ) → 0 < i → i < r - l → bendKind (bendAt d es l r i) ≡ middleKind (d .style) (port d es l r (l + i))
   unfolding bendAt port
   bend-m i z b =
       let e : i ≡ l + i - l = omega arith in
-      bend-inner (nth (grow (d .drs) (w d l)) (w d l) 0) (nth (grow (d .dls) (w d r)) (w d r) 0) (D (pointsOf es)) (changeOf d es l r) i z (omega (arith, last)) ∙
-      ap (λ (n : ℕ). Middle (middleOf (changeOf d es l r) n)) e
+      ap (λ b. bendKind (bent (d .style) b)) (bend-inner _ _ (D (pointsOf es)) (changeOf d es l r) i z (omega (arith, last))) ∙
+      middle-kind (d .style) _ ∙
+      ap (λ (n : ℕ). middleKind (d .style) (middleOf (changeOf d es l r) n)) e
 
   -- the line of entry i: to an end of the run, or to a point inside it
   new-line : (e i : ℕ) → l + i ≤ r → e ≡ length (d .lines) + i → OfEntry (suc (d .k)) (w d (l + i)) (bendAt d es l r i) (lineAt (next d es l r) e) →
-      Line (netOf d) (netOf (next d es l r)) l r (port d es l r) e
+      Line (d .style) (netOf d) (netOf (next d es l r)) l r (port d es l r) e
   new-line e i ir sum t =
       elim (ℕ-discrete i 0) [
         | yes z ↦
             let c : l + i ≡ l = omega arith in
             tip rt (omega arith) (ap pred (t .earlier) ∙ ap (λ (n : ℕ). pred (w d n)) c) (ap pred (t .later))
-            (ap bendKind (t .bend ∙ ap (bendAt d es l r) z ∙ bend-l))
+            (ap bendKind (t .bend ∙ ap (bendAt d es l r) z) ∙ bend-l)
         | no n ↦ elim (ℕ-discrete i (r - l)) [
           | yes z ↦
               let c : l + i ≡ r = omega (arith, q .lr) in
               tip lf (omega arith) (ap pred (t .earlier) ∙ ap (λ (n : ℕ). pred (w d n)) c) (ap pred (t .later))
-              (ap bendKind (t .bend ∙ ap (bendAt d es l r) z ∙ bend-r))
+              (ap bendKind (t .bend ∙ ap (bendAt d es l r) z) ∙ bend-r)
           | no n′ ↦
               rib (l + i) (omega arith) (omega arith) (omega arith) (ap pred (t .earlier)) (ap pred (t .later))
-              (ap bendKind (t .bend ∙ bend-m i (omega arith) (omega arith)))
+              (ap bendKind (t .bend) ∙ bend-m i (omega arith) (omega arith))
         ]
       ]
 
   -- each line of the new net, as net's `Adds` asks for it
-  pub line : (e : ℕ) → e < netOf (next d es l r) .L → Line (netOf d) (netOf (next d es l r)) l r (port d es l r) e
+  pub line : (e : ℕ) → e < netOf (next d es l r) .L → Line (d .style) (netOf d) (netOf (next d es l r)) l r (port d es l r) e
   line e h = go (seen e h)
     where
-      go : Seen e → Line (netOf d) (netOf (next d es l r)) l r (port d es l r) e
+      go : Seen e → Line (d .style) (netOf d) (netOf (next d es l r)) l r (port d es l r) e
       go (stays b t) = old b (ap (λ (a : Drawn). pred (a .earlier)) t) (ap (λ (a : Drawn). pred (a .later)) t) (ap (λ (a : Drawn). bendKind (a .bend)) t)
       go (comes i ir sum t) = new-line e i ir sum t
 
@@ -246,8 +266,8 @@ module _ (d : Drawing) (es : List Entry) (l r : ℕ) (s : Sound d) (q : IsRun d 
       miss zero e b = absurd (omega (arith, change-start x y h c 1 ps))
       miss (suc j) e b = no-hit (suc j) (omega arith) (first-at x y h c ps j (w d (l + suc j)) (inner-at j b) (omega (arith, inners)) e)
 
-  -- step 5: each port of the row reaches its point
-  pub reaches : {s₁ s₂ : ℕ} → Amounts strict (netOf d) (netOf (next d es l r)) l r s₁ s₂ → (c : ℕ) → l < c → c < r →
+  -- step 5, where lines bend: each port of the row reaches its point
+  pub reaches : Inv (netOf d) → {s₁ s₂ : ℕ} → Amounts OneBend (netOf d) (netOf (next d es l r)) l r s₁ s₂ → (c : ℕ) → l < c → c < r →
       Reach (netOf (next d es l r)) (netOf d .w c) (netOf d .k) (port d es l r c)
   unfolding port
-  reaches a c = Row.reaches (s .inv) a h-new′ (changeOf d es l r) change-first c
+  reaches i a c = Row.reaches i a h-new′ (changeOf d es l r) change-first c

@@ -2,7 +2,7 @@
 use Prim.Native.Nat.{ℕ, suc, pred}
 use lib.ListN.{length}
 use Rattle.rules.specs.declared.Bend.{Bend}
-use Rattle.rules.specs.declared.Bend.the-variants.{Left, Right, Middle, Straight}
+use Rattle.rules.specs.declared.Bend.the-variants.{Left, Right, Middle, NoBend}
 use Rattle.rules.specs.Points.{Drawing, xOf, yOf, dlOf, drOf, hOf, ownerOf, m, lineAt}
 use Rattle.rules.specs.Points as Points
 use Rattle.rules.specs.Moving.{column}
@@ -13,7 +13,7 @@ abbrev pub bendKind : Bend → BendKind
 bendKind (Left j) = side lf j
 bendKind (Right j) = side rt j
 bendKind (Middle i) = middle i
-bendKind Straight = flat
+bendKind NoBend = flat
 
 -- the ports of point suc p on a side
 abbrev pub portsOf : Drawing → Side → ℕ → ℕ

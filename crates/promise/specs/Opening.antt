@@ -2,29 +2,46 @@
 use Prim.Native.Nat.{ℕ, zero, suc}
 use mathlib.Core.Path.{_≡_, refl, sym, subst}
 use native.Mathlib.Omega.{arith}
+use Rattle.rules.specs.declared.Style.{Style}
+use Rattle.rules.specs.declared.Style.the-variants.{OneBend, Straight}
 use Rattle.rules.specs.declared.Kind.{Kind}
+use Rattle.rules.specs.Styles.{taken}
 use Rattle.rules.specs.Points.{Drawing, ownerOf, start}
 use Rattle.net.specs.Side.{Side, rt, lf}
-use Rattle.net.specs.Start.{by3-own, three}
+use Rattle.net.specs.Net.{Net, flat, sideKind}
+use Rattle.net.specs.Start.{by3, by3-own, three, core-start}
 use Rattle.net.specs.Start as Start
-use Rattle.net.specs.Inv.{Inv, Border}
-use Rattle.net.specs.Degs.{Degs}
-use Rattle.net.specs.Opened.{opened, inv-opened, border-opened, degs-opened}
+use Rattle.net.specs.Inv.{Core}
+use Rattle.net.specs.Opened.{inv-opened, border-opened, degs-opened}
+use Rattle.net.specs.Size.{width-opened}
 use Rattle.promise.specs.Nets.{netOf, portsOf}
-use Rattle.promise.specs.Sound.{Sized, Root, Rooted, Ended, Sound}
+use Rattle.promise.specs.Sound.{Sized, Root, Rooted, Ended, Rest, Sound}
 
-module _ (n s : ℕ) (c1 c2 c3 : Kind) where
+-- its kinds are those of the opened net
+kinds : (τ : Style) (n s : ℕ) (c1 c2 c3 : Kind) → let g = netOf (start τ n s c1 c2 c3) in
+    g .kind ≡ by3 flat (sideKind τ rt (taken τ 0)) (sideKind τ lf (taken τ 0)) (g .kind)
+kinds OneBend n s c1 c2 c3 = by3-own (netOf (start OneBend n s c1 c2 c3) .kind)
+kinds Straight n s c1 c2 c3 = by3-own (netOf (start Straight n s c1 c2 c3) .kind)
+
+-- what each style keeps besides
+rest-opened : (τ : Style) (g : Net) → Rest τ (Start.start τ g)
+rest-opened OneBend g =
+    let i = inv-opened g in
+    record { ports = i .ports; slopes = i .slopes; frees = i .frees; border = border-opened g; degs = degs-opened g }
+rest-opened Straight g = width-opened g
+
+module _ (τ : Style) (n s : ℕ) (c1 c2 c3 : Kind) where
   -- the drawing as opened
   abbrev d : Drawing
-  d = start n s c1 c2 c3
+  d = start τ n s c1 c2 c3
 
   -- its ports are those of the opened net
-  ports : (t : Side) → portsOf d t ≡ Start.counts (portsOf d) t
+  ports : (t : Side) → portsOf d t ≡ Start.counts τ (portsOf d) t
   ports rt = by3-own (portsOf d rt)
   ports lf = by3-own (portsOf d lf)
 
-  -- its net is the opened one: past the three points too, where `opened` takes what is there
-  is-opened : netOf d ≡ opened (netOf d)
+  -- its net is the opened one: past the three points too, where `Start.start` takes what is there
+  is-opened : netOf d ≡ Start.start τ (netOf d)
   unfolding Start.start
   is-opened =
       λ i. let g = netOf d in
@@ -39,7 +56,7 @@ module _ (n s : ℕ) (c1 c2 c3 : Kind) where
         w = by3-own (g .w) i;
         u = by3-own (g .u) i;
         v = by3-own (g .v) i;
-        kind = by3-own (g .kind) i;
+        kind = kinds τ n s c1 c2 c3 i;
         d = λ t. ports t i;
         h = by3-own (g .h) i;
       }
@@ -72,14 +89,13 @@ module _ (n s : ℕ) (c1 c2 c3 : Kind) where
   ended : Ended d
   ended = record { ends = three _ (omega arith) (omega arith) (omega arith) }
 
-  -- the drawing as opened is sound, for any n and s, and each line of any kind
-  pub sound-start : Sound (start n s c1 c2 c3)
+  -- the drawing as opened is sound, for both styles, any n and s, and each line of any kind
+  pub sound-start : Sound (start τ n s c1 c2 c3)
   sound-start =
       record {
         sized = sized;
         rooted = rooted;
         ended = ended;
-        inv = subst Inv (sym is-opened) (inv-opened (netOf d));
-        border = subst Border (sym is-opened) (border-opened (netOf d));
-        degs = subst Degs (sym is-opened) (degs-opened (netOf d));
+        core = subst (Core τ) (sym is-opened) (core-start (netOf d) τ);
+        rest = subst (Rest τ) (sym is-opened) (rest-opened τ (netOf d));
       }

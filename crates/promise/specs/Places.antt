@@ -5,32 +5,28 @@ use mathlib.Core.List.{List, []}
 use native.Mathlib.Omega.{arith}
 use lib.ListN.{length, List·getD-append}
 use lib.Seq.{getD-at}
-use lib.Dec.{eqb}
+use Rattle.rules.specs.declared.Style.the-variants.{Straight}
 use Rattle.rules.specs.declared.Entry.{Entry}
+use Rattle.rules.specs.Styles.{inset}
 use Rattle.rules.specs.Points.{Drawing, xOf, yOf, dlOf, drOf, w, m}
 use Rattle.rules.specs.Adding.{s1, s2, s3, A, B, newX, newY, step1, step2, spread}
-use Rattle.net.specs.Side.{strict, Side, rt, lf, at}
+use Rattle.net.specs.Side.{Side, rt, lf, at, inset-most}
 use Rattle.net.specs.Net.{Next, beyond-b}
 use Rattle.net.specs.Inv.{Points}
 use Rattle.net.specs.Walls.{chain}
+use Rattle.net.specs.Parity.{parity}
 use Rattle.net.specs.Amounts.{moves, moves-l, moves-r, Shift, none, some, all, shift, Amounts}
 use Rattle.promise.specs.Nets.{netOf}
 use Rattle.promise.specs.Sound.{Sound}
-use Rattle.promise.specs.Next.{IsRun, next}
+use Rattle.promise.specs.Next.{IsRun, Untruncated, next}
 use Rattle.promise.specs.Moved.{amount1, amount2, x-before, x-spread, length-spread}
-use Rattle.promise.specs.Halves.{one-or-two, odd-most, even-after, order-after, new-diff, new-sum}
-
--- No subtraction in A, in B or in B - A truncates, read in the drawing c.
-pub record Untruncated (l r : ℕ) (c : Drawing) : Type 0 where
-  pub left : yOf c (w c l) ≤ xOf c (w c l)
-  pub right : 1 ≤ xOf c (w c r) + yOf c (w c r)
-  pub order : A l c ≤ B r c
+use Rattle.promise.specs.Halves.{amount-range, evening-most, even-after, new-diff, new-sum}
 
 -- ---- the amounts are small and at least 1
 
 -- The amount of step 1 is 1 or 2.
 range₁ : (d : Drawing) (l : ℕ) → (0 < s1 l d) × (s1 l d ≤ 2)
-range₁ d l = one-or-two (eqb (drOf d (w d l)) 0)
+range₁ d l = amount-range (d .style) (drOf d (w d l))
 
 -- The same, of the first amount by its name.
 pub amount1-range : (d : Drawing) (l : ℕ) → (0 < amount1 d l) × (amount1 d l ≤ 2)
@@ -39,12 +35,12 @@ amount1-range d l = range₁ d l
 
 -- The amount of step 2 is 1 or 2.
 range₂ : (d : Drawing) (l r : ℕ) → (0 < s2 r (step1 l d)) × (s2 r (step1 l d) ≤ 2)
-range₂ d l r = one-or-two (eqb (dlOf (step1 l d) (w d r)) 0)
+range₂ d l r = amount-range (d .style) (dlOf (step1 l d) (w d r))
 
 -- The other two amounts together are 1 to 3.
 pub amount2-range : (d : Drawing) (l r : ℕ) → (0 < amount2 d l r) × (amount2 d l r ≤ 3)
 unfolding amount2
-amount2-range d l r = omega (arith, range₂ d l r, odd-most (A l (step2 r (step1 l d)) + B r (step2 r (step1 l d))))
+amount2-range d l r = omega (arith, range₂ d l r, evening-most (d .style) (A l (step2 r (step1 l d)) + B r (step2 r (step1 l d))))
 
 -- ---- the places in the next drawing, read through its lists
 
@@ -70,8 +66,8 @@ next-newY d es l r p h = getD-at (d .ys) _ [] 0 p h
 
 module _ (d : Drawing) (es : List Entry) (l r : ℕ) (s : Sound d) (q : IsRun d es l r) where
   -- The walls and the frame of the net before the call.
-  points : Points strict (netOf d)
-  points = s .inv .core .points
+  points : Points (d .style) (netOf d)
+  points = s .core .points
 
   -- l is a boundary index too.
   lm : l < m d
@@ -120,8 +116,8 @@ module _ (d : Drawing) (es : List Entry) (l r : ℕ) (s : Sound d) (q : IsRun d 
   frame-l : yOf d (w d l) ≤ xOf d (w d l)
   frame-l = points .frame (netOf d .w l) (points .on l lm .0)
 
-  -- Before the call x + y of wr is more than x + y of wl.
-  further : xOf d (w d l) + yOf d (w d l) + 1 ≤ xOf d (w d r) + yOf d (w d r)
+  -- Before the call x + y of wr is more than x + y of wl, or no less in a straight drawing.
+  further : xOf d (w d l) + yOf d (w d l) + inset (d .style) ≤ xOf d (w d r) + yOf d (w d r)
   further = beyond-b (chain points l r (q .lr) (q .rm) .1)
 
   -- ---- laws for the running code, which has no numbers below 0: A, B and B - A are the document's differences, and the halves of step 4 leave no rest
@@ -131,31 +127,39 @@ module _ (d : Drawing) (es : List Entry) (l r : ℕ) (s : Sound d) (q : IsRun d 
   exact₃ =
       record {
         left = omega (arith, left₂, frame-l);
-        right = omega (arith, right₂, range₁ d l);
-        order = omega (arith, left₂, right₂, frame-l, further, range₁ d l, range₂ d l r);
+        right = omega (arith, right₂, range₁ d l, inset-most (d .style));
+        order = omega (arith, left₂, right₂, frame-l, further, range₁ d l, range₂ d l r, inset-most (d .style));
       }
 
   -- Step 4: A + B is even.
   pub even : (A l (spread l r d) + B r (spread l r d)) % 2 ≡ 0
-  even = even-after _ _ _ _ _ _ left₃ right₃ (exact₃ .left) (exact₃ .right) (exact₃ .order)
+  even =
+      even-after (d .style) _ _ _ _ _ _ _ (drOf d (w d l)) (dlOf (step1 l d) (w d r)) l r left₃ right₂ right₃ (exact₃ .left) (exact₃ .right)
+      (rw left₂ (parity (s .core .corners) l lm)) (parity (s .core .corners) r (q .rm))
+
+  -- In a straight drawing it was so before step 3.
+  pub even₂ : d .style ≡ Straight → (A l (step2 r (step1 l d)) + B r (step2 r (step1 l d))) % 2 ≡ 0
+  even₂ b =
+      let z : s3 l r (step2 r (step1 l d)) ≡ 0 = rw b in
+      omega (arith, even, left₃, right₃, z)
 
   -- Step 4: no subtraction truncates.
   pub exact₄ : Untruncated l r (spread l r d)
   exact₄ =
       record {
         left = omega (arith, left-x, frame-l);
-        right = omega (arith, right-x, amount1-range d l);
-        order = order-after _ _ _ _ _ _ left₃ right₃ (exact₃ .left) (exact₃ .right) (exact₃ .order);
+        right = omega (arith, right₃, exact₃ .right);
+        order = omega (arith, left₃, right₃, exact₃ .order);
       }
 
-  -- Step 4 in sums: the new point has x - y one more than wl.
-  pub new-left : newX l r (spread l r d) + yOf d (w d l) ≡ xOf d (w d l) + 1 + newY l r (spread l r d)
+  -- Step 4 in sums: the new point has x - y one more than wl, or the same in a straight drawing.
+  pub new-left : newX l r (spread l r d) + yOf d (w d l) ≡ xOf d (w d l) + inset (d .style) + newY l r (spread l r d)
   new-left =
-      new-diff _ _ _ _ _ _ left₃ right₃ (exact₃ .left) (exact₃ .right) (exact₃ .order) ∙ ap (λ n. n + 1 + newY l r (spread l r d)) left-x
+      new-diff (d .style) _ _ _ _ (exact₄ .left) (exact₄ .right) (exact₄ .order) even ∙ ap (λ n. n + inset (d .style) + newY l r (spread l r d)) left-x
 
-  -- Step 4 in sums: the new point has x + y one less than wr, which has moved.
-  pub new-right : newX l r (spread l r d) + newY l r (spread l r d) + 1 ≡ xOf (spread l r d) (w d r) + yOf d (w d r)
-  new-right = new-sum _ _ _ _ _ _ left₃ right₃ (exact₃ .left) (exact₃ .right) (exact₃ .order)
+  -- Step 4 in sums: the new point has x + y one less than wr, which has moved, or the same in a straight drawing.
+  pub new-right : newX l r (spread l r d) + newY l r (spread l r d) + inset (d .style) ≡ xOf (spread l r d) (w d r) + yOf d (w d r)
+  new-right = new-sum (d .style) _ _ _ _ (exact₄ .left) (exact₄ .right) (exact₄ .order) even
 
   -- ---- the amounts of the step from `netOf d` to the next net
 
@@ -184,7 +188,7 @@ module _ (d : Drawing) (es : List Entry) (l r : ℕ) (s : Sound d) (q : IsRun d 
   y-end i im = y-old (netOf d .w i) (points .on i im .0)
 
   -- All that net's `places-of` asks.
-  pub amounts : Amounts strict (netOf d) (netOf (next d es l r)) l r (amount1 d l) (amount2 d l r)
+  pub amounts : Amounts (d .style) (netOf d) (netOf (next d es l r)) l r (amount1 d l) (amount2 d l r)
   amounts =
       record {
         lr = q .lr;
@@ -200,6 +204,11 @@ module _ (d : Drawing) (es : List Entry) (l r : ℕ) (s : Sound d) (q : IsRun d 
   -- All the amounts are 5 at most.
   pub most : amount1 d l + amount2 d l r ≤ 5
   most = omega (arith, amount1-range d l, amount2-range d l r)
+
+  -- In a straight drawing they are 2.
+  pub two : d .style ≡ Straight → amount1 d l + amount2 d l r ≡ 2
+  unfolding amount1 amount2
+  two b = rw b
 
   -- The columns up to l stay.
   pub still : (c : ℕ) → c ≤ l → moves l r (amount1 d l) (amount2 d l r) c ≡ 0
@@ -219,7 +228,7 @@ module _ (d : Drawing) (es : List Entry) (l r : ℕ) (s : Sound d) (q : IsRun d 
       go (some a b e) = absurd (omega arith)
       go (all a e) = e
 
-  -- The new point is one step from each end of the run.
-  pub step : (t : Side) → Next strict t (netOf (next d es l r)) (netOf d .w (at t l r)) (netOf d .k)
+  -- The new point is one step from each end of the run, or on one diagonal with it in a straight drawing.
+  pub step : (t : Side) → Next (d .style) t (netOf (next d es l r)) (netOf d .w (at t l r)) (netOf d .k)
   step rt = omega (arith, amounts .new-a, x-end l lm, left-x, y-end l lm)
   step lf = omega (arith, amounts .new-b, y-end r (q .rm))

@@ -1,4 +1,4 @@
--- DEMAND 3, clause 4: two different lines have no point in common but the place of a point where both end.
+-- DEMAND 3, clause 4, of both drawings: two different lines have no point in common but the place of a point where both end.
 use Prim.Native.Nat.{ℕ, pred, _<_}
 use mathlib.Core.Path.{_≡_, refl, ap, subst₂}
 use mathlib.Core.Logic.{_≢_, _⊎_, inl, inr}
@@ -7,11 +7,13 @@ use mathlib.Core.List.{[], _∷_}
 use native.Mathlib.Omega.{arith}
 use lib.Dec.{eqb}
 use borrow.Author.Tests.{eqb-true, eqb-false}
+use Rattle.rules.specs.declared.Style.{Style}
+use Rattle.rules.specs.declared.Style.the-variants.{OneBend, Straight}
 use Rattle.rules.specs.declared.Kind.{Kind}
 use Rattle.rules.specs.declared.Place.{Place}
 use Rattle.rules.specs.declared.Line.{Line}
 use Rattle.rules.specs.declared.Bend.{Bend}
-use Rattle.rules.specs.declared.Bend.the-variants.{Left, Right, Middle, Straight}
+use Rattle.rules.specs.declared.Bend.the-variants.{Left, Right, Middle, NoBend}
 use Rattle.rules.specs.Basics.{if_then_else_, keep, allOf, anyOf}
 use Rattle.rules.specs.Points.{Drawing, placeOf, lineAt}
 use Rattle.rules.specs.Ports.{Piece, pieces}
@@ -19,12 +21,16 @@ use Rattle.rules.specs.Meeting.{meet, meetOnlyAt}
 use Rattle.rules.specs.Demand.{endsAt, sharedEnds, apartPieces, apart}
 use Rattle.rules.specs.Bools.{neither, either}
 use Rattle.plane.specs.Apart.{OnlyAt}
-use Rattle.plane.specs.Only.{only-test, only-swap, only-flip}
+use Rattle.plane.specs.Only.{only-test, only-swap, only-second}
+use Rattle.net.specs.Net.{Net}
 use Rattle.net.specs.Bend.{Spot}
 use Rattle.net.specs.Stack.{Half, one, two, head, tail, OnlyHalf}
+use Rattle.net.specs.Parting.{Missed, EndsApart, EndShared}
 use Rattle.net.specs.Disjoint.{disjoint}
 use Rattle.net.specs.Shared.{shared}
-use Rattle.promise.specs.Sound.{Sound}
+use Rattle.net.specs.Plane as Plane
+use Rattle.promise.specs.Sound.{Sound, bent, unbent}
+use Rattle.promise.specs.Nets.{netOf}
 use Rattle.promise.specs.Promise.{IsLine, Planar}
 use Rattle.promise.specs.Spots.{drawn, spots}
 
@@ -39,11 +45,7 @@ all-pieces : (d : Drawing) (q p : ℕ) (b : Bend) (c : Kind) → let l : Line = 
 all-pieces d q p (Left j) c t h = rw (h _ (along one), h _ (along two))
 all-pieces d q p (Right j) c t h = rw (h _ (along one), h _ (along two))
 all-pieces d q p (Middle i) c t h = rw (h _ (against two), h _ (against one))
-all-pieces d q p Straight c t h = rw (h _ (along two))
-
--- the ends of the second piece exchanged
-only-second : (z p q r s : Place) → OnlyAt z p q r s → OnlyAt z p q s r
-only-second z p q r s h = only-flip _ _ _ _ _ (only-swap _ _ _ _ _ (only-flip _ _ _ _ _ h))
+all-pieces d q p NoBend c t h = rw (h _ (along two))
 
 -- the direction of the pieces does not matter
 only-lies : (z : Place) (S T : Spot → Place) → OnlyHalf z S T → {p q r s : Place} → Lies S p q → Lies T r s → OnlyAt z p q r s
@@ -52,11 +54,7 @@ only-lies z S T h (along i) (against j) = only-second _ _ _ _ _ (h i j)
 only-lies z S T h (against i) (along j) = only-swap _ _ _ _ _ (h i j)
 only-lies z S T h (against i) (against j) = only-swap _ _ _ _ _ (only-second _ _ _ _ _ (h i j))
 
--- no two of the places S and of the places T are the ends of pieces that meet
-abbrev Missed : (Spot → Place) → (Spot → Place) → Type 0
-Missed S T = (i j i′ j′ : Spot) → meet (S i) (S j) (T i′) (T j′) ≡ false
-
--- so no two of their pieces meet
+-- places no two of which are the ends of pieces that meet
 miss-lies : (S T : Spot → Place) → Missed S T → {p q r s : Place} → Lies S p q → Lies T r s → meet p q r s ≡ false
 miss-lies S T h (along i) (along j) = h (head i) (tail i) (head j) (tail j)
 miss-lies S T h (along i) (against j) = h (head i) (tail i) (tail j) (head j)
@@ -94,6 +92,18 @@ ends-not p l h a b c =
     let j : l .earlier ≢ p = eqb-false (l .earlier) p (n .1) in
     (omega arith, omega arith)
 
+-- what net says of two lines, for both drawings
+record Parting (g : Net) : Type 0 where
+  disjoint : EndsApart g
+  shared : EndShared g
+
+parting : (d : Drawing) → Sound d → Parting (netOf d)
+parting d s = go (d .style) refl
+  where
+    go : (τ : Style) → d .style ≡ τ → Parting (netOf d)
+    go OneBend b = let i = bent s b .inv in record { disjoint = disjoint i; shared = shared i }
+    go Straight b = let c = unbent s b .core in record { disjoint = Plane.disjoint c; shared = Plane.shared c }
+
 module _ (d : Drawing) (s : Sound d) (e f : ℕ) (el : IsLine d e) (fl : IsLine d f) (n : e ≢ f) where
   -- the two lines
   abbrev E : Line
@@ -105,7 +115,7 @@ module _ (d : Drawing) (s : Sound d) (e f : ℕ) (el : IsLine d e) (fl : IsLine 
   -- a common end p of the lines is their only common point
   only-at : (p : ℕ) → (pred (E .earlier) ≡ pred p) ⊎ (pred (E .later) ≡ pred p) → endsAt p F ≡ true → OnlyHalf (placeOf d p) (drawn d E) (drawn d F)
   only-at p h k =
-      subst₂ (OnlyHalf (placeOf d p)) (spots d s e el) (spots d s f fl) (shared (s .inv) (pred p) e f el fl n h (ends-net p F k))
+      subst₂ (OnlyHalf (placeOf d p)) (spots d e) (spots d f) (parting d s .shared (pred p) e f el fl n h (ends-net p F k))
 
   -- lines with no common end
   missed : endsAt (E .later) F ≡ false → endsAt (E .earlier) F ≡ false → Missed (drawn d E) (drawn d F)
@@ -114,7 +124,7 @@ module _ (d : Drawing) (s : Sound d) (e f : ℕ) (el : IsLine d e) (fl : IsLine 
       let q = s .ended .ends f fl in
       let i = ends-not (E .later) F h (o .1) (q .0) (q .1) in
       let j = ends-not (E .earlier) F k (o .0) (q .0) (q .1) in
-      subst₂ Missed (spots d s e el) (spots d s f fl) (disjoint (s .inv) e f el fl (j .0) (j .1) (i .0) (i .1))
+      subst₂ Missed (spots d e) (spots d f) (parting d s .disjoint e f el fl (j .0) (j .1) (i .0) (i .1))
 
   module _ (x y : Piece) (u : Lies (drawn d E) (x .from) (x .to)) (v : Lies (drawn d F) (y .from) (y .to)) where
     -- a piece of one and a piece of the other have only the place of p in common

@@ -1,12 +1,16 @@
--- DEMAND 3, in the order of its clauses: what every drawing promises, with k points, m of them on the boundary, and W the x of point 2.
+-- DEMAND 3, for one-bend drawings, in the order of its clauses: what every drawing promises, with k points, m of them on the boundary, and W the x of point 2.
 -- Every word is a definition of `rules`. Points count from 1, boundary indices and lines from 0.
-use Prim.Native.Nat.{ℕ, suc, _+_, _*_, _<_, _≤_}
+use Prim.Native.Nat.{ℕ, suc, _+_, _*_, _%_, _<_, _≤_}
 use mathlib.Core.Path.{_≡_}
 use mathlib.Core.Logic.{_≢_}
 use mathlib.Core.Bool.{true}
 use lib.ListN.{length}
-use Rattle.rules.specs.Points.{Drawing, xOf, placeOf, w, m, W, lineAt}
+use Rattle.rules.specs.declared.Style.{Style}
+use Rattle.rules.specs.declared.Style.the-variants.{OneBend, Straight}
+use Rattle.rules.specs.Points.{Drawing, xOf, yOf, placeOf, w, m, W, lineAt}
 use Rattle.rules.specs.Ports.{bendPlace, freePiece}
+use Rattle.rules.specs.Adding.{A, B, step1, step2}
+use Rattle.rules.specs.DrawingFile.{highest}
 use Rattle.rules.specs.Demand.{endsAt, joins, slanted, towards, noSector, sectorOf, countsAt, apart, degree, wideApart, inFrame}
 
 -- e is the number of a line
@@ -70,3 +74,42 @@ pub record Promise (d : Drawing) : Type 0 where
   pub pointsFramed : PointsFramed d
   pub bendsFramed : BendsFramed d
   pub narrow : Narrow d
+
+-- ---- THE STRAIGHT DRAWING, document 02, wish 2: clauses 1, 4 and 6 are the same, and so is the first half of 2. A straight line is one piece between its ends.
+
+-- All points lie at x from 0 to W and at heights from 0 to W/2.
+abbrev pub Framed : Drawing → Type 0
+Framed d = (p : ℕ) → 0 < p → p ≤ d .k → (xOf d p ≤ W d) × (2 * yOf d p ≤ W d)
+
+-- x + y is even along the boundary.
+abbrev pub Even : Drawing → Type 0
+Even d = (i : ℕ) → i < m d → (xOf d (w d i) + yOf d (w d i)) % 2 ≡ 0
+
+-- So A + B is even where document 01 has its step 3: that step would never move anything.
+abbrev pub NoStep3 : Drawing → Type 0
+NoStep3 d = (l r : ℕ) → l < r → r < m d → (let c = step2 r (step1 l d) in (A l c + B r c) % 2 ≡ 0)
+
+-- W is 2k - 4.
+abbrev pub Wide : Drawing → Type 0
+Wide d = W d + 4 ≡ 2 * d .k
+
+-- "A finished panel is 2n - 4 wide and n - 2 high."
+abbrev pub Finished : Drawing → Type 0
+Finished d = d .k ≡ d .n → (W d + 4 ≡ 2 * d .n) × (highest (d .ys) + 2 ≡ d .n)
+
+pub record StraightPromise (d : Drawing) : Type 0 where
+  pub rising : Rising d
+  pub bordered : Bordered d
+  pub planar : Planar d
+  pub counted : Counted d
+  pub framed : Framed d
+  pub even : Even d
+  pub noStep3 : NoStep3 d
+  pub wide : Wide d
+  pub finished : Finished d
+
+-- ---- what a drawing of either style promises
+
+abbrev pub Promised : Style → Drawing → Type 0
+Promised OneBend d = Promise d
+Promised Straight d = StraightPromise d

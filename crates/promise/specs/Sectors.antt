@@ -7,7 +7,7 @@ use native.Mathlib.Omega.{arith}
 use borrow.Author.Tests.{lt-ltb, le-ltb, le-leb, lt-leb, eq-eqb, not-true}
 use Rattle.rules.specs.declared.Kind.{Kind}
 use Rattle.rules.specs.declared.Bend.{Bend}
-use Rattle.rules.specs.declared.Bend.the-variants.{Left, Right, Middle, Straight}
+use Rattle.rules.specs.declared.Bend.the-variants.{Left, Right, Middle, NoBend}
 use Rattle.rules.specs.declared.Line.{Line}
 use Rattle.rules.specs.declared.Place.{Place}
 use Rattle.rules.specs.Points.{Drawing, placeOf, lineAt}
@@ -21,7 +21,7 @@ use Rattle.net.specs.Angles as A
 use Rattle.net.specs.Angles.{Dir}
 use Rattle.net.specs.Aims.{Heads, Aim, out, free, mid, top}
 use Rattle.promise.specs.Nets.{netOf, bendKind}
-use Rattle.promise.specs.Sound.{Sound}
+use Rattle.promise.specs.Sound.{Bent}
 use Rattle.promise.specs.Promise.{IsLine, Sectored, Single}
 use Rattle.promise.specs.Leaving.{Leaving, leaving, leaving-heads, end-placed}
 
@@ -57,7 +57,7 @@ side-port : (v u p : ℕ) (b : Bend) (c : Kind) (s : Side) (j : ℕ) → bendKin
 side-port v u p (Left i) c s j k q = eq-eqb u p q
 side-port v u p (Right i) c s j k q = eq-eqb u p q
 side-port v u p (Middle i) c s j k q = let z : _≡_ {A = ℕ} 0 1 = cc in absurd (omega arith)
-side-port v u p Straight c s j k q = let z : _≡_ {A = ℕ} 0 1 = cc in absurd (omega arith)
+side-port v u p NoBend c s j k q = let z : _≡_ {A = ℕ} 0 1 = cc in absurd (omega arith)
 
 -- A middle port is at the later end.
 middle-port : (v u p : ℕ) (b : Bend) (c : Kind) (j : ℕ) → bendKind b ≡ middle j → v ≡ p →
@@ -65,14 +65,14 @@ middle-port : (v u p : ℕ) (b : Bend) (c : Kind) (j : ℕ) → bendKind b ≡ m
 middle-port v u p (Left i) c j k q = let z : _≡_ {A = ℕ} 0 1 = cc in absurd (omega arith)
 middle-port v u p (Right i) c j k q = let z : _≡_ {A = ℕ} 0 1 = cc in absurd (omega arith)
 middle-port v u p (Middle i) c j k q = eq-eqb v p q
-middle-port v u p Straight c j k q = let z : _≡_ {A = ℕ} 0 1 = cc in absurd (omega arith)
+middle-port v u p NoBend c j k q = let z : _≡_ {A = ℕ} 0 1 = cc in absurd (omega arith)
 
 -- A line e that counts at z in the sector σ came from a side, or covers z from above.
 data Counts (g : Net) (z e : ℕ) (σ : Sector) : Type 0 where
   aside : (s : Side) → Came g z e s → σ ≡ sideSector s → Counts g z e σ
   upward : (j : ℕ) → g .kind e ≡ middle j → g .u e ≡ z → σ ≡ middleSector → Counts g z e σ
 
-module _ (d : Drawing) (s : Sound d) where
+module _ (d : Drawing) (s : Bent d) where
   -- Every line that counts does so for one of these reasons.
   counts : (p e : ℕ) → IsLine d e → countsAt p (lineAt d e) ≡ true → Counts (netOf d) (pred p) e (sectorOf d p (lineAt d e))
   counts p e el h = by-aim (L .aimed .aim) (leaving-heads L)
@@ -94,10 +94,10 @@ module _ (d : Drawing) (s : Sound d) where
 
       by-aim : {a : Dir} → Aim (netOf d) (pred p) e a → Heads a (placeOf d p) (towards d p l) → Counts (netOf d) (pred p) e (sectorOf d p l)
       by-aim (out t j k q b c ea) w =
-          absurd (true≢false (sym (side-port (l .later) (l .earlier) p (l .bend) (l .kind) t j k (here (l .earlier) (s .ended .ends e el .0) q)) ∙ away))
+          absurd (true≢false (sym (side-port (l .later) (l .earlier) p (l .bend) (l .kind) t j k (here (l .earlier) (s .sound .ended .ends e el .0) q)) ∙ away))
       by-aim (free t x y c b b′ ea) w = aside t c (free-sector t x y (placeOf d p) (towards d p l) b b′ (rw ea at w))
       by-aim (mid j k q b c ea) w =
-          absurd (true≢false (sym (middle-port (l .later) (l .earlier) p (l .bend) (l .kind) j k (here (l .later) (s .ended .ends e el .1) q)) ∙ away))
+          absurd (true≢false (sym (middle-port (l .later) (l .earlier) p (l .bend) (l .kind) j k (here (l .later) (s .sound .ended .ends e el .1) q)) ∙ away))
       by-aim (top j x x′ y k q b c ea) w = upward j k q (top-sector x x′ y (placeOf d p) (towards d p l) b c (rw ea at w))
 
 -- ---- the two fields
@@ -130,7 +130,7 @@ one-line n el fl (aside s c h) (upward j k u h′) = absurd (side-not-middle s (
 one-line n el fl (upward j k u h) (aside s c h′) = absurd (side-not-middle s (sym h′ ∙ h))
 one-line n {e = e} {f = f} el fl (upward i k u h) (upward j k′ u′ h′) = n .frees .cover i j e f el fl k k′ (u ∙ sym u′)
 
-module _ (d : Drawing) (s : Sound d) where
+module _ (d : Drawing) (s : Bent d) where
   -- A line that counts at a point leaves it into a free sector.
   pub sectors : Sectored d
   sectors p e el h = some-sector (counts d s p e el h)

@@ -1,8 +1,8 @@
 -- How the lines of a drawing are read in its net: the three places of a line, its ends, and its pieces by its kind.
-use Prim.Native.Nat.{ℕ, suc, pred, _+_, _-_, _<_}
+use Prim.Native.Nat.{ℕ, suc, pred, _+_, _<_}
 use mathlib.Core.Path.{_≡_, refl, sym, ap, _∙_, ap₂, fun-ext}
-use mathlib.Core.Logic.{_≢_, _⊎_, ⊎-map}
-use mathlib.Core.Bool.{Bool, true, false, false≢true, or-true}
+use mathlib.Core.Logic.{_⊎_, ⊎-map}
+use mathlib.Core.Bool.{Bool, true, or-true}
 use native.Mathlib.Omega.{arith}
 use borrow.Author.Tests.{eqb-true, eq-eqb}
 use lib.Dec.{eqb}
@@ -11,21 +11,16 @@ use Rattle.rules.specs.declared.Kind.the-variants.{Guide}
 use Rattle.rules.specs.declared.Line.{Line}
 use Rattle.rules.specs.declared.Place.{Place}
 use Rattle.rules.specs.declared.Bend.{Bend}
-use Rattle.rules.specs.declared.Bend.the-variants.{Left, Right, Middle, Straight}
+use Rattle.rules.specs.declared.Bend.the-variants.{Left, Right, Middle, NoBend}
 use Rattle.rules.specs.Points.{Drawing, at, xOf, yOf, drOf, placeOf, lineAt}
 use Rattle.rules.specs.Ports.{bendOf, bendPlace, hasPort, portOwner, otherEnd, Piece, freePiece}
 use Rattle.rules.specs.Demand.{endsAt}
 use Rattle.rules.specs.Bools.{either}
-use Rattle.net.specs.Net.{Net, BendKind, side, middle, flat}
-use Rattle.net.specs.Inv.{Inv}
+use Rattle.net.specs.Net.{BendKind, side, middle, flat}
 use Rattle.net.specs.Bend.{Spot, start, bend, end, turn, spot}
 use Rattle.promise.specs.Nets.{bendKind, netOf}
 use Rattle.promise.specs.Promise.{IsLine}
-use Rattle.promise.specs.Sound.{Sound}
-
--- the line without a port joins the first two points
-pub flat-ends : {g : Net} (n : Inv g) (e : ℕ) → e < g .L → g .kind e ≡ flat → (g .u e ≡ 0) × (g .v e ≡ 1)
-flat-ends {g} n e el k = let z = n .frees .base e el k in (ap (g .u) z ∙ n .frees .ground .0, ap (g .v) z ∙ n .frees .ground .1)
+use Rattle.promise.specs.Sound.{Sound, Bent}
 
 -- ---- the three places of a line
 
@@ -37,29 +32,30 @@ spot-start d e = refl
 pub spot-end : (d : Drawing) (e : ℕ) → spot (netOf d) e end ≡ placeOf d (lineAt d e .later)
 spot-end d e = refl
 
--- the bend by its kind; without a port it is the place of point 1
-turn-bend : (d : Drawing) (v u : ℕ) (b : Bend) → (b ≡ Straight → placeOf d u ≡ placeOf d 1) →
-    turn (netOf d) (pred u) (pred v) (bendKind b) ≡ bendOf d v u b
-turn-bend d v u (Left j) h = refl
-turn-bend d v u (Right j) h =
+-- the bend by its kind; without a port it is the earlier end
+pub turn-bend : (d : Drawing) (v u : ℕ) (b : Bend) → turn (netOf d) (pred u) (pred v) (bendKind b) ≡ bendOf d v u b
+turn-bend d v u (Left j) = refl
+turn-bend d v u (Right j) =
     let e : xOf d u + (drOf d u + 1) ≡ xOf d u + drOf d u + 1 = omega arith in
     ap (λ a. at a (yOf d u + j)) e
-turn-bend d v u (Middle i) h = refl
-turn-bend d v u Straight h = h refl
+turn-bend d v u (Middle i) = refl
+turn-bend d v u NoBend = refl
 
 -- a bend has a port
 abbrev pub ported : Bend → Bool
 ported b = hasPort (record { later = 0; earlier = 0; bend = b; kind = Guide })
 
--- the bend at a port
-pub turn-port : (d : Drawing) (v u : ℕ) (b : Bend) → ported b ≡ true → turn (netOf d) (pred u) (pred v) (bendKind b) ≡ bendOf d v u b
-turn-port d v u b h = turn-bend d v u b (λ e. absurd (false≢true (sym (ap ported e) ∙ h)))
-
 -- the bend
-pub spot-bend : {d : Drawing} → Sound d → (e : ℕ) → IsLine d e → spot (netOf d) e bend ≡ bendPlace d (lineAt d e)
-spot-bend {d} s e el =
-    let l = lineAt d e in
-    turn-bend d (l .later) (l .earlier) (l .bend) (λ q. ap (λ p. placeOf d (suc p)) (flat-ends (s .inv) e el (ap bendKind q) .0))
+pub spot-bend : (d : Drawing) (e : ℕ) → spot (netOf d) e bend ≡ bendPlace d (lineAt d e)
+spot-bend d e = let l = lineAt d e in turn-bend d (l .later) (l .earlier) (l .bend)
+
+-- In a one-bend drawing line 1-2 alone has no bend, and so "its bend is written as the place of point 1".
+pub no-bend : {d : Drawing} → Bent d → (e : ℕ) → IsLine d e → lineAt d e .bend ≡ NoBend → (e ≡ 0) × (bendPlace d (lineAt d e) ≡ placeOf d 1)
+no-bend {d} s e el q =
+    let f = s .inv .frees in
+    let z = f .base e el (ap bendKind q) in
+    let u : netOf d .u e ≡ 0 = ap (netOf d .u) z ∙ f .ground .0 in
+    (z, sym (spot-bend d e) ∙ ap (turn (netOf d) (netOf d .u e) (netOf d .v e)) (ap bendKind q) ∙ ap (λ p. placeOf d (suc p)) u)
 
 -- the three places of a line in the rules
 abbrev pub drawn : Drawing → Line → Spot → Place
@@ -68,12 +64,12 @@ drawn d l bend = bendPlace d l
 drawn d l end = placeOf d (l .later)
 
 -- all three at once
-pub spots : (d : Drawing) → Sound d → (e : ℕ) → IsLine d e → spot (netOf d) e ≡ drawn d (lineAt d e)
-spots d s e el = fun-ext go
+pub spots : (d : Drawing) (e : ℕ) → spot (netOf d) e ≡ drawn d (lineAt d e)
+spots d e = fun-ext go
   where
     go : (i : Spot) → spot (netOf d) e i ≡ drawn d (lineAt d e) i
     go start = spot-start d e
-    go bend = spot-bend s e el
+    go bend = spot-bend d e
     go end = spot-end d e
 
 -- ---- ends
@@ -119,7 +115,7 @@ line-ends : (v u : ℕ) (b : Bend) (c : Kind) → (portOwner (lineOf v u b c) �
 line-ends v u (Left j) c = (refl, refl)
 line-ends v u (Right j) c = (refl, refl)
 line-ends v u (Middle i) c = (refl, refl)
-line-ends v u Straight c = (refl, refl)
+line-ends v u NoBend c = (refl, refl)
 
 -- the other end
 pub other-end : (d : Drawing) (e : ℕ) → otherEnd (lineAt d e) ≡ byOwner (netOf d .kind e) (lineAt d e .later) (lineAt d e .earlier)
@@ -142,6 +138,6 @@ abbrev pub piece : Place → Place → Piece
 piece a b = record { from = a; to = b }
 
 -- the free piece
-pub free-piece : {d : Drawing} → Sound d → (e : ℕ) → IsLine d e →
+pub free-piece : (d : Drawing) (e : ℕ) →
     freePiece d (lineAt d e) ≡ piece (spot (netOf d) e bend) (spot (netOf d) e (byOwner (netOf d .kind e) end start))
-free-piece {d} s e el = ap₂ piece (sym (spot-bend s e el)) (other-place d e)
+free-piece d e = ap₂ piece (sym (spot-bend d e)) (other-place d e)

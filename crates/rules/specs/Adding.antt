@@ -1,5 +1,5 @@
 -- "Adding a point", with the order of tests that "Refused because of the state" fixes.
-use Prim.Native.Nat.{ℕ, suc, _+_, _-_, _*_, _/_, _%_}
+use Prim.Native.Nat.{ℕ, suc, _+_, _-_, _*_, _/_}
 use mathlib.Core.Bool.{Bool, true, not, _&&_, _||_}
 use mathlib.Core.List.{List, [], _∷_, _++_, tail, map}
 use lib.ListN.{length, take, drop}
@@ -11,9 +11,10 @@ use Rattle.rules.specs.declared.Reading.the-variants.{Given}
 use Rattle.rules.specs.declared.Bend.{Bend}
 use Rattle.rules.specs.declared.Bend.the-variants.{Left, Right, Middle}
 use Rattle.rules.specs.declared.Refusal.the-variants.{Finished, FewEntries, BothMarks, NotPlaced, Covered, NoRun, NotWhole, NoReach}
-use Rattle.rules.specs.Basics.{if_then_else_, grow, elem, snoc, headOf, indexOf}
+use Rattle.rules.specs.Basics.{if_then_else_, alter, elem, snoc, headOf, indexOf}
 use Rattle.rules.specs.Refusals.{Result, good, refused, _>>_, refuseIf}
 use Rattle.rules.specs.Entries.{readEntry, isBoth, pointRead, pointsRead, givenIn}
+use Rattle.rules.specs.Styles.{taken, bent, amount, inset, evening, reachPasses}
 use Rattle.rules.specs.Points.{Drawing, xOf, yOf, dlOf, drOf, w, m}
 use Rattle.rules.specs.Moving.{move}
 
@@ -45,39 +46,39 @@ inner run = allButLast (tail run)
 
 -- ---- steps 1 to 3, with the run still on the boundary
 
--- "dr of wl grows by 1", "dl of wr grows by 1"
+-- "dr of wl grows by 1", "dl of wr grows by 1", where lines take ports
 abbrev pub growDr : ℕ → Drawing → Drawing
 growDr p d =
-    record { n = d .n; s = d .s; k = d .k; boundary = d .boundary; owners = d .owners; xs = d .xs; ys = d .ys; dls = d .dls; drs = grow (d .drs) p; hs = d .hs; lines = d .lines }
+    record { style = d .style; n = d .n; s = d .s; k = d .k; boundary = d .boundary; owners = d .owners; xs = d .xs; ys = d .ys; dls = d .dls; drs = alter (taken (d .style)) (d .drs) p; hs = d .hs; lines = d .lines }
 
 abbrev pub growDl : ℕ → Drawing → Drawing
 growDl p d =
-    record { n = d .n; s = d .s; k = d .k; boundary = d .boundary; owners = d .owners; xs = d .xs; ys = d .ys; dls = grow (d .dls) p; drs = d .drs; hs = d .hs; lines = d .lines }
+    record { style = d .style; n = d .n; s = d .s; k = d .k; boundary = d .boundary; owners = d .owners; xs = d .xs; ys = d .ys; dls = alter (taken (d .style)) (d .dls) p; drs = d .drs; hs = d .hs; lines = d .lines }
 
 -- 1. "Let s1 be 2 if dr of wl is 0, else 1. Move w(l+1), .., wm right by s1. dr of wl grows by 1."
 abbrev pub s1 : ℕ → Drawing → ℕ
-s1 l d = if eqb (drOf d (w d l)) 0 then 2 else 1
+s1 l d = amount (d .style) (drOf d (w d l))
 
 abbrev pub step1 : ℕ → Drawing → Drawing
 step1 l d = growDr (w d l) (move (l + 1) (s1 l d) d)
 
 -- 2. "Let s2 be 2 if dl of wr is 0, else 1. Move wr, .., wm right by s2. dl of wr grows by 1."
 abbrev pub s2 : ℕ → Drawing → ℕ
-s2 r d = if eqb (dlOf d (w d r)) 0 then 2 else 1
+s2 r d = amount (d .style) (dlOf d (w d r))
 
 abbrev pub step2 : ℕ → Drawing → Drawing
 step2 r d = growDl (w d r) (move r (s2 r d) d)
 
 -- 3. "Let A = (x - y of wl) + 1 and B = (x + y of wr) - 1."
 abbrev pub A : ℕ → Drawing → ℕ
-A l d = (xOf d (w d l) - yOf d (w d l)) + 1
+A l d = (xOf d (w d l) - yOf d (w d l)) + inset (d .style)
 
 abbrev pub B : ℕ → Drawing → ℕ
-B r d = (xOf d (w d r) + yOf d (w d r)) - 1
+B r d = (xOf d (w d r) + yOf d (w d r)) - inset (d .style)
 
 -- "If A + B is odd, move wr, .., wm one more, and B grows by 1."
 abbrev pub s3 : ℕ → ℕ → Drawing → ℕ
-s3 l r d = if eqb ((A l d + B r d) % 2) 1 then 1 else 0
+s3 l r d = evening (d .style) (A l d + B r d)
 
 abbrev pub step3 : ℕ → ℕ → Drawing → Drawing
 step3 l r d = move r (s3 l r d) d
@@ -142,9 +143,9 @@ runTests i (q ∷ ws) (p ∷ ps) = do
 abbrev pub wholeTest : Drawing → List ℕ → Result (Unit {0})
 wholeTest d run = refuseIf (eqb (d .k + 1) (d .n) && not (eqb (length run) (m d))) NotWhole 0
 
--- 25, on the copy c that steps 1 to 3 give
+-- 25, on the copy c that steps 1 to 3 give, where it is asked
 abbrev pub reachTest : ℕ → ℕ → Drawing → List ℕ → Result (Unit {0})
-reachTest l r c run = refuseIf (not (allReach (newX l r c) (newY l r c) (rowHeight run) c 1 (inner run))) NoReach 0
+reachTest l r c run = refuseIf (not (reachPasses (c .style) (allReach (newX l r c) (newY l r c) (rowHeight run) c 1 (inner run)))) NoReach 0
 
 -- those that need no new place
 unfoldable pub callTests : Drawing → List Reading → Result (Unit {0})
@@ -174,7 +175,7 @@ abbrev pub owned : (ℕ → Bool) → ℕ → ℕ → List ℕ → List ℕ
 owned test new p [] = []
 owned test new p (o ∷ os) = (if test p then new else o) ∷ owned test new (suc p) os
 
--- the bend of entry i's line, from 0: "its line to wl bends at wl's new highest right port, its line to wr at wr's new highest left port"
+-- the bend of entry i's line, from 0, where lines bend: "its line to wl bends at wl's new highest right port, its line to wr at wr's new highest left port"
 abbrev pub newBend : ℕ → ℕ → ℕ → ℕ → ℕ → Bend
 newBend rights lefts last from i = if eqb i 0 then Right rights else if eqb i last then Left lefts else Middle (middleOf from i)
 
@@ -187,6 +188,7 @@ newLines new bend i (e ∷ es) = record { later = new; earlier = e .point; bend 
 abbrev pub joined : List Entry → List ℕ → ℕ → ℕ → ℕ → ℕ → Drawing → Drawing
 joined es run l r x y c =
     record {
+      style = c .style;
       n = c .n;
       s = c .s;
       k = suc (c .k);
@@ -197,7 +199,7 @@ joined es run l r x y c =
       dls = snoc (c .dls) 0;
       drs = snoc (c .drs) 0;
       hs = snoc (c .hs) (rowHeight run);
-      lines = c .lines ++ newLines (suc (c .k)) (newBend (drOf c (w c l)) (dlOf c (w c r)) (D run) (change x y (rowHeight run) c 1 (inner run))) 0 es;
+      lines = c .lines ++ newLines (suc (c .k)) (λ i. bent (c .style) (newBend (drOf c (w c l)) (dlOf c (w c r)) (D run) (change x y (rowHeight run) c 1 (inner run)) i)) 0 es;
     }
 
 abbrev pub joinedAt : List Entry → List ℕ → ℕ → ℕ → Drawing → Drawing

@@ -22,12 +22,12 @@ nth l p d = getD l (pred p) d
 abbrev pub snoc : {A : Type 0} → List A → A → List A
 snoc l a = l ++ (a ∷ [])
 
--- element p, from 1, grows by 1
-abbrev pub grow : List ℕ → ℕ → List ℕ
-grow [] p = []
-grow (a ∷ l) zero = a ∷ l
-grow (a ∷ l) (suc zero) = suc a ∷ l
-grow (a ∷ l) (suc (suc i)) = a ∷ grow l (suc i)
+-- element p, from 1, becomes what f says of it
+abbrev pub alter : (ℕ → ℕ) → List ℕ → ℕ → List ℕ
+alter f [] p = []
+alter f (a ∷ l) zero = a ∷ l
+alter f (a ∷ l) (suc zero) = f a ∷ l
+alter f (a ∷ l) (suc (suc i)) = a ∷ alter f l (suc i)
 
 abbrev pub headOf : List ℕ → ℕ
 headOf [] = 0

@@ -1,6 +1,7 @@
 -- "What demand 3 means": a list of calls, from n and the entries alone.
 use Prim.Native.Nat.{ℕ}
 use mathlib.Core.List.{List, [], _∷_}
+use Rattle.rules.specs.declared.Style.{Style}
 use Rattle.rules.specs.declared.Answer.{Answer}
 use Rattle.rules.specs.Refusals.{Result, good, refused, answer}
 use Rattle.rules.specs.Points.{Drawing, opening}
@@ -21,8 +22,8 @@ answers d [] = []
 answers d (call ∷ calls) = answer (add d call) ∷ answers (left d (add d call)) calls
 
 -- "The list starts from the drawing as opened."
-abbrev pub drawn : ℕ → List (List ℕ) → Drawing
-drawn n calls = after (opening n) calls
+abbrev pub drawn : Style → ℕ → List (List ℕ) → Drawing
+drawn style n calls = after (opening style n) calls
 
-abbrev pub said : ℕ → List (List ℕ) → List Answer
-said n calls = answers (opening n) calls
+abbrev pub said : Style → ℕ → List (List ℕ) → List Answer
+said style n calls = answers (opening style n) calls

@@ -1,6 +1,7 @@
 pub mod Basics
 pub mod Refusals
 pub mod Entries
+pub mod Styles
 pub mod Points
 pub mod Moving
 pub mod Ports
@@ -18,6 +19,7 @@ pub mod Moves
 pub mod Ten
 pub mod Cases
 pub mod Feeders
+pub mod Straights
 pub mod Bools
 pub mod Results
 pub mod Numbers

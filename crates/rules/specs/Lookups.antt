@@ -4,12 +4,12 @@ use mathlib.Core.Path.{_≡_}
 use mathlib.Core.Bool.{true, false, not}
 use lib.ListN.{length}
 use lib.Dec.{ltb}
-use Rattle.rules.specs.declared.Line.{Line}
 use Rattle.rules.specs.declared.Place.{Place}
 use Rattle.rules.specs.declared.Refusal.the-variants.{NoSuch}
 use Rattle.rules.specs.Basics.{between}
 use Rattle.rules.specs.Refusals.{Result, good, Told, gives, refusedWith, _>>_, refuseIf}
 use Rattle.rules.specs.Entries.{isCut}
+use Rattle.rules.specs.Styles.{LineSeen, seen}
 use Rattle.rules.specs.Points.{Drawing, placeOf, lineAt}
 use Rattle.rules.specs.Ports.{bendPlace}
 use Rattle.rules.specs.Demand.{endsAt}
@@ -20,15 +20,11 @@ lookPoint d p = do
   refuseIf (not (between 1 (d .k) p)) NoSuch 0
   good (placeOf d p)
 
--- a line with its ends, bend and kind, and where its bend lies
-pub record LineSeen : Type 0 where
-  pub line : Line
-  pub bendAt : Place
-
+-- a line with its ends, bend and kind, and where its bend lies; a straight one has no bend
 abbrev pub lookLine : Drawing → ℕ → Result LineSeen
 lookLine d e = do
   refuseIf (not (ltb e (length (d .lines)))) NoSuch 0
-  good (record { line = lineAt d e; bendAt = bendPlace d (lineAt d e) })
+  good (seen (d .style) (lineAt d e) (bendPlace d (lineAt d e)))
 
 -- line e is a cut line that ends at p: "a feeder is a cut line"
 pub record CutLineAt (d : Drawing) (p e : ℕ) : Type 0 where

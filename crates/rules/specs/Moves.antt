@@ -4,6 +4,7 @@ use mathlib.Core.Bool.{Bool, not, _&&_}
 use mathlib.Core.List.{List, [], _∷_, _++_}
 use lib.ListN.{length, getD}
 use lib.Dec.{ltb}
+use Rattle.rules.specs.declared.Style.{Style}
 use Rattle.rules.specs.declared.Kind.{Kind}
 use Rattle.rules.specs.declared.Kind.the-variants.{Guide, Plain, Feeder}
 use Rattle.rules.specs.declared.Line.{Line}
@@ -11,6 +12,7 @@ use Rattle.rules.specs.declared.Place.{Place}
 use Rattle.rules.specs.declared.Refusal.the-variants.{BadTool, Unfinished, NoSuch}
 use Rattle.rules.specs.Basics.{between}
 use Rattle.rules.specs.Refusals.{Result, good, _>>_, refuseIf}
+use Rattle.rules.specs.Styles.{ofBend}
 use Rattle.rules.specs.Points.{Drawing, placeOf}
 use Rattle.rules.specs.Ports.{bendPlace}
 
@@ -34,22 +36,22 @@ abbrev pub eighths : ℕ → Tool → ℕ → ℕ
 eighths s t c = s * c * t .pitch
 
 -- "travel to its later point, plunge to minus depth, cut to the bend, cut to the earlier point, lift to clearance"
-abbrev pub fiveMoves : ℕ → Tool → Place → Place → Place → List Move
-fiveMoves s t later bend earlier =
+abbrev pub lineMoves : Style → ℕ → Tool → Place → Place → Place → List Move
+lineMoves style s t later bend earlier =
     travel (eighths s t (later .x)) (eighths s t (later .y)) ∷
     plunge (t .depth) ∷
-    cut (eighths s t (bend .x)) (eighths s t (bend .y)) ∷
-    cut (eighths s t (earlier .x)) (eighths s t (earlier .y)) ∷
-    lift (t .clearance) ∷ []
+    (ofBend style (cut (eighths s t (bend .x)) (eighths s t (bend .y)) ∷ []) ++
+    (cut (eighths s t (earlier .x)) (eighths s t (earlier .y)) ∷
+    lift (t .clearance) ∷ []))
 
--- "Each cut line gives five moves." "A feeder gives its five moves twice in succession."
+-- "Each cut line gives five moves", a straight one four. "A feeder gives its five moves twice in succession."
 abbrev pub repeated : Kind → List Move → List Move
-repeated Guide five = []
-repeated Plain five = five
-repeated Feeder five = five ++ five
+repeated Guide once = []
+repeated Plain once = once
+repeated Feeder once = once ++ once
 
 abbrev pub movesOf : Drawing → Tool → Line → List Move
-movesOf d t l = repeated (l .kind) (fiveMoves (d .s) t (placeOf d (l .later)) (bendPlace d l) (placeOf d (l .earlier)))
+movesOf d t l = repeated (l .kind) (lineMoves (d .style) (d .s) t (placeOf d (l .later)) (bendPlace d l) (placeOf d (l .earlier)))
 
 -- "Moves are numbered from 0 through the cut lines in line order."
 abbrev pub movesOver : Drawing → Tool → List Line → List Move

@@ -27,6 +27,7 @@ shift i by d p = if leb i (column d p) then by else 0
 abbrev pub move : ℕ → ℕ → Drawing → Drawing
 move i by d =
     record {
+      style = d .style;
       n = d .n;
       s = d .s;
       k = d .k;

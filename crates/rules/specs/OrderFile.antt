@@ -4,6 +4,7 @@ use mathlib.Core.Bool.{not}
 use mathlib.Core.List.{List, [], _∷_, _++_, map}
 use lib.ListN.{getD}
 use lib.Dec.{eqb}
+use Rattle.rules.specs.declared.Style.{Style}
 use Rattle.rules.specs.declared.Kind.{Kind}
 use Rattle.rules.specs.declared.Kind.the-variants.{Plain}
 use Rattle.rules.specs.declared.Line.{Line}
@@ -34,8 +35,8 @@ abbrev pub kindAt : ℕ → List Entry → Kind
 kindAt i es = getD es i (record { point = 0; kind = Plain }) .kind
 
 -- the drawing that the entries of points 2 and 3 begin
-abbrev pub startWith : ℕ → ℕ → List Entry → List Entry → Drawing
-startWith n s second third = start n s (kindAt 0 second) (kindAt 0 third) (kindAt 1 third)
+abbrev pub startWith : Style → ℕ → ℕ → List Entry → List Entry → Drawing
+startWith style n s second third = start style n s (kindAt 0 second) (kindAt 0 third) (kindAt 1 third)
 
 -- ---- reading
 
@@ -69,23 +70,23 @@ readRest (suc c) d at = do
   readRest c e (f .next)
 
 -- the records of points 1 to 3, then those of the rest
-unfoldable pub readPoints : ℕ → ℕ → Cursor → Result Drawing
-readPoints n s at = do
+unfoldable pub readPoints : Style → ℕ → ℕ → Cursor → Result Drawing
+readPoints style n s at = do
   f ← readRecord pointEntries at
   startTest [] (pointsRead (entriesIn f)) (f .place)
   g ← readRecord pointEntries (f .next)
   recordTests (1 ∷ []) (entriesIn g) (g .place)
   h ← readRecord pointEntries (g .next)
   recordTests (1 ∷ 2 ∷ []) (entriesIn h) (h .place)
-  readRest (n - 3) (startWith n s (givenIn (entriesIn g)) (givenIn (entriesIn h))) (h .next)
+  readRest (n - 3) (startWith style n s (givenIn (entriesIn g)) (givenIn (entriesIn h))) (h .next)
 
--- the drawing of an order file, "record by record: .., then the others; 10 last"
-unfoldable pub readOrder : List ℕ → Result Drawing
-readOrder bytes = do
+-- a drawing of an order file, of either style, "record by record: .., then the others; 10 last"
+unfoldable pub readOrder : Style → List ℕ → Result Drawing
+readOrder style bytes = do
   f ← readRecord orderHead (fromStart bytes)
   refuseIf (not (between fewestPoints mostPoints (first f))) OutOfRange 0
   c ← readScale (f .next)
-  readPoints (first f) (c .s) (c .next)
+  readPoints style (first f) (c .s) (c .next)
 
 -- ---- writing
 

@@ -3,6 +3,7 @@ use Prim.Native.Nat.{ℕ}
 use mathlib.Core.List.{List, [], _∷_, _++_}
 use lib.ListN.{length, take, drop}
 use lib.Dec.{ltb}
+use Rattle.rules.specs.declared.Style.{Style}
 use Rattle.rules.specs.declared.Refusal.the-variants.{OutputShort}
 use Rattle.rules.specs.Refusals.{Result, good, refused, number, _>>_, _>>=_, refuseIf}
 use Rattle.rules.specs.Decimal.{digits}
@@ -41,9 +42,9 @@ printed (refused r p) = refusalLine (number r) p
 abbrev pub judgedBytes : ℕ
 judgedBytes = 32768
 
-abbrev pub program : List ℕ → List ℕ
-program input = printed (drawFile (take judgedBytes input))
+abbrev pub program : Style → List ℕ → List ℕ
+program style input = printed (drawFile style (take judgedBytes input))
 
 -- the reading program: a drawing file, of which the order file comes back; document 01 names no limit, so the whole input is the file
-abbrev pub backProgram : List ℕ → List ℕ
-backProgram input = printed (orderBack input)
+abbrev pub backProgram : Style → List ℕ → List ℕ
+backProgram style input = printed (orderBack style input)

@@ -2,18 +2,21 @@
 use Prim.Native.Nat.{ℕ}
 use mathlib.Core.List.{List, [], _∷_}
 use lib.ListN.{length, getD}
+use Rattle.rules.specs.declared.Style.{Style}
 use Rattle.rules.specs.declared.Kind.{Kind}
 use Rattle.rules.specs.declared.Kind.the-variants.{Guide, Plain}
 use Rattle.rules.specs.declared.Line.{Line}
 use Rattle.rules.specs.declared.Place.{Place}
-use Rattle.rules.specs.declared.Bend.the-variants.{Left, Right, Straight}
+use Rattle.rules.specs.declared.Bend.the-variants.{Left, Right, NoBend}
 use Rattle.rules.specs.declared.Refusal.the-variants.{OutOfRange}
 use Rattle.rules.specs.Basics.{if_then_else_, nth, between}
 use Rattle.rules.specs.Refusals.{Result, good, refused}
+use Rattle.rules.specs.Styles.{secondX, thirdX, thirdY, taken, bent}
 
 -- "It is: n, the scale s, k, the boundary, the owner of each covered point, each point's place, dl and dr, and the lines in order."
--- The lists have one number for each placed point, in order. hs holds the h of a point's middle row, 0 for points 1 to 3.
+-- The lists have one number for each placed point, in order. hs holds the h of a point's middle row, 0 for points 1 to 3. style says which of the two drawings it is.
 pub record Drawing : Type 0 where
+  pub style : Style
   pub n : ℕ
   pub s : ℕ
   pub k : ℕ
@@ -65,32 +68,33 @@ W d = xOf d 2
 
 -- line e, numbered from 0
 abbrev pub lineAt : Drawing → ℕ → Line
-lineAt d e = getD (d .lines) e (record { later = 0; earlier = 0; bend = Straight; kind = Guide })
+lineAt d e = getD (d .lines) e (record { later = 0; earlier = 0; bend = NoBend; kind = Guide })
 
 -- "Opening places points 1, 2, 3 at (0,0), (6,0), (3,2), boundary 1, 3, 2. After opening, dr of point 1 and dl of point 2 are 1."
--- "Line 1-2 without a port, 3-1 at right port 1 of point 1, 3-2 at left port 1 of point 2", each of its kind.
-abbrev pub start : ℕ → ℕ → Kind → Kind → Kind → Drawing
-start n s kind12 kind31 kind32 =
+-- "Line 1-2 without a port, 3-1 at right port 1 of point 1, 3-2 at left port 1 of point 2", each of its kind. The straight drawing starts alike, without ports.
+abbrev pub start : Style → ℕ → ℕ → Kind → Kind → Kind → Drawing
+start style n s kind12 kind31 kind32 =
     record {
+      style = style;
       n = n;
       s = s;
       k = 3;
       boundary = 1 ∷ 3 ∷ 2 ∷ [];
       owners = 0 ∷ 0 ∷ 0 ∷ [];
-      xs = 0 ∷ 6 ∷ 3 ∷ [];
-      ys = 0 ∷ 0 ∷ 2 ∷ [];
-      dls = 0 ∷ 1 ∷ 0 ∷ [];
-      drs = 1 ∷ 0 ∷ 0 ∷ [];
+      xs = 0 ∷ secondX style ∷ thirdX style ∷ [];
+      ys = 0 ∷ 0 ∷ thirdY style ∷ [];
+      dls = 0 ∷ taken style 0 ∷ 0 ∷ [];
+      drs = taken style 0 ∷ 0 ∷ 0 ∷ [];
       hs = 0 ∷ 0 ∷ 0 ∷ [];
       lines =
-          record { later = 2; earlier = 1; bend = Straight; kind = kind12 } ∷
-          record { later = 3; earlier = 1; bend = Right 1; kind = kind31 } ∷
-          record { later = 3; earlier = 2; bend = Left 1; kind = kind32 } ∷ [];
+          record { later = 2; earlier = 1; bend = NoBend; kind = kind12 } ∷
+          record { later = 3; earlier = 1; bend = bent style (Right 1); kind = kind31 } ∷
+          record { later = 3; earlier = 2; bend = bent style (Left 1); kind = kind32 } ∷ [];
     }
 
 -- "A drawing opened by a call has s = 1 and its first three lines cut", once.
-abbrev pub opening : ℕ → Drawing
-opening n = start n 1 Plain Plain Plain
+abbrev pub opening : Style → ℕ → Drawing
+opening style n = start style n 1 Plain Plain Plain
 
 -- "A drawing is opened for n points, n from 3 to 1,024."
 abbrev pub fewestPoints : ℕ
@@ -99,5 +103,5 @@ fewestPoints = 3
 abbrev pub mostPoints : ℕ
 mostPoints = 1024
 
-abbrev pub opened : ℕ → Result Drawing
-opened n = if between fewestPoints mostPoints n then good (opening n) else refused OutOfRange 0
+abbrev pub opened : Style → ℕ → Result Drawing
+opened style n = if between fewestPoints mostPoints n then good (opening style n) else refused OutOfRange 0

@@ -4,9 +4,11 @@ use mathlib.Core.Bool.{Bool, not}
 use mathlib.Core.List.{List, [], _∷_}
 use lib.ListN.{length, drop}
 use lib.Dec.{ltb, eqb}
+use Rattle.rules.specs.declared.Style.{Style}
 use Rattle.rules.specs.declared.Refusal.the-variants.{FileEnds, WrongMark, ExtraBytes}
 use Rattle.rules.specs.Basics.{headOf}
 use Rattle.rules.specs.Refusals.{Result, good, _>>_, _>>=_, refuseIf}
+use Rattle.rules.specs.Styles.{drawingMark, lineNumbers}
 
 -- what follows the mark: so many numbers, or a count and that many
 pub data Size : Type 0 where
@@ -27,9 +29,6 @@ scaleMark = 0x5343
 
 abbrev pub entriesMark : ℕ
 entriesMark = 0x5054
-
-abbrev pub drawingMark : ℕ
-drawingMark = 0x4448
 
 abbrev pub placeMark : ℕ
 placeMark = 0x504F
@@ -57,16 +56,16 @@ abbrev pub endShape : Shape
 endShape = record { mark = endMark; size = plain 0 }
 
 -- "44 48, n, s, width, height"
-abbrev pub drawingHead : Shape
-drawingHead = record { mark = drawingMark; size = plain 4 }
+abbrev pub drawingHead : Style → Shape
+drawingHead style = record { mark = drawingMark style; size = plain 4 }
 
 -- "per point 50 4F, x, y"
 abbrev pub pointPlace : Shape
 pointPlace = record { mark = placeMark; size = plain 2 }
 
--- "per line 4C 4E, later point, earlier point, bend x, bend y", and its kind
-abbrev pub lineShape : Shape
-lineShape = record { mark = lineMark; size = plain 5 }
+-- "per line 4C 4E, later point, earlier point, bend x, bend y", and its kind; "line records without a bend"
+abbrev pub lineShape : Style → Shape
+lineShape style = record { mark = lineMark; size = plain (lineNumbers style) }
 
 -- the bytes of a mark and so many numbers: a drawing file's header, a point's place, a line
 abbrev pub bytesIn : ℕ → ℕ
@@ -78,8 +77,8 @@ headSize = bytesIn 4
 abbrev pub placeSize : ℕ
 placeSize = bytesIn 2
 
-abbrev pub lineSize : ℕ
-lineSize = bytesIn 5
+abbrev pub lineSize : Style → ℕ
+lineSize style = bytesIn (lineNumbers style)
 
 -- ---- writing
 

@@ -6,8 +6,9 @@ use mathlib.Core.List.{List, [], _∷_, _++_, map}
 use lib.ListN.{getD}
 use lib.Dec.{eqb}
 use Rattle.rules.specs.declared.Place.{Place}
-use Rattle.rules.specs.declared.Bend.the-variants.{Straight}
+use Rattle.rules.specs.declared.Bend.the-variants.{NoBend}
 use Rattle.rules.specs.declared.Kind.the-variants.{Plain}
+use Rattle.rules.specs.declared.Style.the-variants.{OneBend}
 use Rattle.rules.specs.declared.Refusal.the-variants.{OutputShort, NoSuch, Unfinished, BadTool}
 use Rattle.rules.specs.Basics.{keep}
 use Rattle.rules.specs.Refusals.{good, refused, Told, gives, refusedWith, told, toldAnswer}
@@ -24,24 +25,24 @@ use Rattle.rules.specs.Moves.{Tool, moveAt, cut}
 
 -- the bend of the line a-b, from a later to an earlier point
 abbrev pub bendOn : Drawing → ℕ → ℕ → Place
-bendOn d a b = bendPlace d (getD (keep (λ l. eqb (l .later) a && eqb (l .earlier) b) (d .lines)) 0 (record { later = 0; earlier = 0; bend = Straight; kind = Plain }))
+bendOn d a b = bendPlace d (getD (keep (λ l. eqb (l .later) a && eqb (l .earlier) b) (d .lines)) 0 (record { later = 0; earlier = 0; bend = NoBend; kind = Plain }))
 
 -- the answers in document 01's numbers
 abbrev pub toldOf : ℕ → List (List ℕ) → List (Told (Unit {0}))
-toldOf n calls = map toldAnswer (said n calls)
+toldOf n calls = map toldAnswer (said OneBend n calls)
 
 abbrev pub K2 : Drawing
-K2 = drawn 4 ((1 ∷ 3 ∷ 2 ∷ []) ∷ [])
+K2 = drawn OneBend 4 ((1 ∷ 3 ∷ 2 ∷ []) ∷ [])
 
 abbrev pub K3 : Drawing
-K3 = drawn 5 ((1 ∷ 3 ∷ []) ∷ [])
+K3 = drawn OneBend 5 ((1 ∷ 3 ∷ []) ∷ [])
 
 abbrev pub K4 : Drawing
-K4 = drawn 5 ((1 ∷ 3 ∷ []) ∷ (1 ∷ 4 ∷ 3 ∷ 2 ∷ []) ∷ [])
+K4 = drawn OneBend 5 ((1 ∷ 3 ∷ []) ∷ (1 ∷ 4 ∷ 3 ∷ 2 ∷ []) ∷ [])
 
 pub ten :
     -- K1 opening
-    (opened 3 ≡ good (opening 3)) × (placeOf (opening 3) 1 ≡ at 0 0) × (placeOf (opening 3) 2 ≡ at 6 0) × (placeOf (opening 3) 3 ≡ at 3 2) × (opening 3 .boundary ≡ 1 ∷ 3 ∷ 2 ∷ []) ×
+    (opened OneBend 3 ≡ good (opening OneBend 3)) × (placeOf (opening OneBend 3) 1 ≡ at 0 0) × (placeOf (opening OneBend 3) 2 ≡ at 6 0) × (placeOf (opening OneBend 3) 3 ≡ at 3 2) × (opening OneBend 3 .boundary ≡ 1 ∷ 3 ∷ 2 ∷ []) ×
     -- K2 n = 4, add 1,3,2
     (placeOf K2 1 ≡ at 0 0) × (placeOf K2 2 ≡ at 8 0) × (placeOf K2 3 ≡ at 4 2) × (placeOf K2 4 ≡ at 4 3) × (bendOn K2 4 3 ≡ at 4 2) ×
     -- K3 n = 5, add 1,3
@@ -54,7 +55,7 @@ pub ten :
     -- K8 n = 6, after 1,3,2 add 1,3,2: 7 at 1
     (toldOf 6 ((1 ∷ 3 ∷ 2 ∷ []) ∷ (1 ∷ 3 ∷ 2 ∷ []) ∷ []) ≡ gives tt ∷ refusedWith 7 1 ∷ []) ×
     -- K9 n = 1,024 opens; 2 and 1,025 give 3
-    (opened 1024 ≡ good (opening 1024)) × (told (opened 2) ≡ refusedWith 3 0) × (told (opened 1025) ≡ refusedWith 3 0) ×
+    (opened OneBend 1024 ≡ good (opening OneBend 1024)) × (told (opened OneBend 2) ≡ refusedWith 3 0) × (told (opened OneBend 1025) ≡ refusedWith 3 0) ×
     -- K10 adding to a finished drawing: 21
     (toldOf 4 ((1 ∷ 3 ∷ 2 ∷ []) ∷ (1 ∷ 4 ∷ 2 ∷ []) ∷ []) ≡ gives tt ∷ refusedWith 21 0 ∷ [])
 unfolding callTests judge placedNew addRead
@@ -67,14 +68,14 @@ wholeOrder = 0x48 ∷ 0x44 ∷ 0x00 ∷ 0x03 ∷ 0x50 ∷ 0x54 ∷ 0x00 ∷ 0x00
 abbrev pub wholeDrawing : List ℕ
 wholeDrawing = 0x44 ∷ 0x48 ∷ 0x00 ∷ 0x03 ∷ 0x00 ∷ 0x01 ∷ 0x00 ∷ 0x06 ∷ 0x00 ∷ 0x02 ∷ 0x50 ∷ 0x4F ∷ 0x00 ∷ 0x00 ∷ 0x00 ∷ 0x00 ∷ 0x50 ∷ 0x4F ∷ 0x00 ∷ 0x06 ∷ 0x00 ∷ 0x00 ∷ 0x50 ∷ 0x4F ∷ 0x00 ∷ 0x03 ∷ 0x00 ∷ 0x02 ∷ 0x4C ∷ 0x4E ∷ 0x00 ∷ 0x02 ∷ 0x00 ∷ 0x01 ∷ 0x00 ∷ 0x00 ∷ 0x00 ∷ 0x00 ∷ 0x00 ∷ 0x01 ∷ 0x4C ∷ 0x4E ∷ 0x00 ∷ 0x03 ∷ 0x00 ∷ 0x01 ∷ 0x00 ∷ 0x02 ∷ 0x00 ∷ 0x01 ∷ 0x00 ∷ 0x01 ∷ 0x4C ∷ 0x4E ∷ 0x00 ∷ 0x03 ∷ 0x00 ∷ 0x02 ∷ 0x00 ∷ 0x04 ∷ 0x00 ∷ 0x01 ∷ 0x00 ∷ 0x01 ∷ 0x45 ∷ 0x4E ∷ []
 
-pub whole : (drawFile wholeOrder ≡ good wholeDrawing) × (orderBack wholeDrawing ≡ good wholeOrder)
+pub whole : (drawFile OneBend wholeOrder ≡ good wholeDrawing) × (orderBack OneBend wholeDrawing ≡ good wholeOrder)
 unfolding callTests judge placedNew addRead readRest readPoints readOrder writeOrder drawingBytes judgeRest judgeLines judgeDrawing readDrawing
 whole = (refl, refl)
 
 -- the two programs print these files, and `refused 10 at 66` where a byte stands behind the drawing
 pub programs :
-    (program wholeOrder ≡ wholeDrawing) × (backProgram wholeDrawing ≡ wholeOrder) ×
-    (backProgram (wholeDrawing ++ (0 ∷ [])) ≡ 114 ∷ 101 ∷ 102 ∷ 117 ∷ 115 ∷ 101 ∷ 100 ∷ 32 ∷ 49 ∷ 48 ∷ 32 ∷ 97 ∷ 116 ∷ 32 ∷ 54 ∷ 54 ∷ 10 ∷ [])
+    (program OneBend wholeOrder ≡ wholeDrawing) × (backProgram OneBend wholeDrawing ≡ wholeOrder) ×
+    (backProgram OneBend (wholeDrawing ++ (0 ∷ [])) ≡ 114 ∷ 101 ∷ 102 ∷ 117 ∷ 115 ∷ 101 ∷ 100 ∷ 32 ∷ 49 ∷ 48 ∷ 32 ∷ 97 ∷ 116 ∷ 32 ∷ 54 ∷ 54 ∷ 10 ∷ [])
 unfolding callTests judge placedNew addRead readRest readPoints readOrder writeOrder drawingBytes judgeRest judgeLines judgeDrawing readDrawing digits
 programs = (refl, refl, refl)
 
@@ -83,8 +84,8 @@ tool = record { pitch = 80; depth = 40; clearance = 1 }
 
 -- 24 on an output one byte short, and bytes past the drawing that stay; `refused 11 at 147`; look-ups; moves with their refusals
 pub others :
-    (fitted (0 ∷ wholeOrder) (drawFile wholeOrder) ≡ refused OutputShort 0) ×
-    (filled (wholeDrawing ++ (9 ∷ 9 ∷ [])) (drawFile wholeOrder) ≡ wholeDrawing ++ (9 ∷ 9 ∷ [])) ×
+    (fitted (0 ∷ wholeOrder) (drawFile OneBend wholeOrder) ≡ refused OutputShort 0) ×
+    (filled (wholeDrawing ++ (9 ∷ 9 ∷ [])) (drawFile OneBend wholeOrder) ≡ wholeDrawing ++ (9 ∷ 9 ∷ [])) ×
     (refusalLine 11 147 ≡ 114 ∷ 101 ∷ 102 ∷ 117 ∷ 115 ∷ 101 ∷ 100 ∷ 32 ∷ 49 ∷ 49 ∷ 32 ∷ 97 ∷ 116 ∷ 32 ∷ 49 ∷ 52 ∷ 55 ∷ 10 ∷ []) ×
     (lookPoint K4 5 ≡ good (at 6 5)) × (lookPoint K4 6 ≡ refused NoSuch 0) × (lookPoint K4 0 ≡ refused NoSuch 0) ×
     (moveAt K4 tool 27 ≡ good (cut 320 240)) × (moveAt K4 tool 45 ≡ refused NoSuch 0) × (moveAt K3 tool 0 ≡ refused Unfinished 0) ×

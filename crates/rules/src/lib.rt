@@ -10,18 +10,22 @@ pub const ENTRIES_MARK: u16 = 0x5054;
 
 pub const DRAWING_MARK: u16 = 0x4448;
 
+pub const STRAIGHT_MARK: u16 = 0x4453;
+
 pub const PLACE_MARK: u16 = 0x504F;
 
 pub const LINE_MARK: u16 = 0x4C4E;
 
 pub const END_MARK: u16 = 0x454E;
 
-// How many numbers stand behind the mark: n, s, width, height; x, y; later point, earlier point, bend x, bend y, its kind.
+// How many numbers stand behind the mark: n, s, width, height; x, y; later point, earlier point, bend x, bend y, its kind; and of a straight line, which has no bend, the other three.
 pub const DRAWING_NUMBERS: usize = 4;
 
 pub const PLACE_NUMBERS: usize = 2;
 
 pub const LINE_NUMBERS: usize = 5;
+
+pub const STRAIGHT_NUMBERS: usize = 3;
 
 // How many bytes a record has: a mark, a mark and a number, or a mark and those numbers.
 pub const END_SIZE: usize = 2;
@@ -72,12 +76,18 @@ pub enum Answer {
     Refused(Refusal, usize),
 }
 
+// The two drawings: lines with one bend, or straight lines.
+pub enum Style {
+    OneBend,
+    Straight,
+}
+
 // Where a line bends: at a left, right or middle port, with the port's index, or nowhere.
 pub enum Bend {
     Left(u16),
     Right(u16),
     Middle(u16),
-    Straight,
+    NoBend,
 }
 
 // What an entry says of its line: a guide isn't cut, a plain line is cut once, a feeder twice.
