@@ -4,7 +4,8 @@ use mathlib.Core.Path.{_≡_, refl}
 use Rattle.rules.specs.declared.Place.{Place}
 use Rattle.rules.specs.Refusals.{number, Result, good, refused, Told, gives, refusedWith, told}
 use Rattle.rules.specs.Lookups.{Sought, cutLine, noCutLine}
-use Rattle.rules.specs.Lookups as Rules
+use Rattle.rules.specs.Styles.{withBend, withoutBend}
+use Rattle.rules.specs.Styles as Rules
 use Rattle.tool.specs.declared.Move.{Move}
 use Rattle.answers.specs.declared.Written.{Written}
 use Rattle.answers.specs.declared.Written.the-variants as Written
@@ -30,7 +31,8 @@ toldPoint (Point.At a) = gives a
 toldPoint (Point.Refused r p) = refusedWith (number r) p
 
 abbrev pub toldLine : LineSeen → Told Rules.LineSeen
-toldLine (Line.Seen l b) = gives (record { line = l; bendAt = b })
+toldLine (Line.Bent l b) = gives (withBend l b)
+toldLine (Line.Straight l) = gives (withoutBend l)
 toldLine (Line.Refused r p) = refusedWith (number r) p
 
 abbrev pub toldCut : CutSeen → Told Sought
@@ -54,7 +56,8 @@ pointSeen (good a) = Point.At a
 pointSeen (refused r p) = Point.Refused r p
 
 abbrev pub lineSeen : Result Rules.LineSeen → LineSeen
-lineSeen (good l) = Line.Seen (l .line) (l .bendAt)
+lineSeen (good (withBend l b)) = Line.Bent l b
+lineSeen (good (withoutBend l)) = Line.Straight l
 lineSeen (refused r p) = Line.Refused r p
 
 pub point-told : (o : Result Place) → toldPoint (pointSeen o) ≡ told o
@@ -62,5 +65,6 @@ point-told (good a) = refl
 point-told (refused r p) = refl
 
 pub line-told : (o : Result Rules.LineSeen) → toldLine (lineSeen o) ≡ told o
-line-told (good l) = refl
+line-told (good (withBend l b)) = refl
+line-told (good (withoutBend l)) = refl
 line-told (refused r p) = refl

@@ -12,14 +12,15 @@ pub enum Written {
     Refused(Refusal, usize),
 }
 
-// A look-up: a point's place; a line with its bend, and where the bend lies; a cut line's number, or that there is none.
+// A look-up: a point's place; a line with its bend, and where the bend lies, or a straight line; a cut line's number, or that there is none.
 pub enum PointSeen {
     At(Place),
     Refused(Refusal, usize),
 }
 
 pub enum LineSeen {
-    Seen(Line, Place),
+    Bent(Line, Place),
+    Straight(Line),
     Refused(Refusal, usize),
 }
 

@@ -6,6 +6,7 @@ use native.Mathlib.Numerals.{add-one}
 use native.Mathlib.Omega.{arith}
 use lib.ListN.{length, getD, take, drop, set, length-set, length-take, take-append-drop}
 use lib.Seq.{take-suc-set, drop-set-lt, drop-drop, lt-length-set}
+use Rattle.rules.specs.declared.Style.{Style}
 use Rattle.rules.specs.declared.Answer.{Answer}
 use Rattle.rules.specs.Refusals.{answer}
 use Rattle.rules.specs.Points.{Drawing as Plan, opening}
@@ -21,22 +22,22 @@ use Rattle.calls.specs.Answers.{answerWords, wordsOf}
 use Rattle.calls.specs.Turns.{Callable, Made, Begun, Ended}
 
 -- the calls up to index `at` of the words are made, and the first `told` words of the buffer are their answers
-pub record Going (n : ℕ) (ws before : List ℕ) (a : Arrays) (c : Counts) (at told : ℕ) (out : List ℕ) : Type 0 where
+pub record Going (τ : Style) (n : ℕ) (ws before : List ℕ) (a : Arrays) (c : Counts) (at told : ℕ) (out : List ℕ) : Type 0 where
   pub plan : Plan
   pub holds : Holds plan a c
   pub range : at ≤ length ws
-  pub drawing : after plan (callsIn (drop at ws)) ≡ drawn n (callsIn ws)
-  pub buffer : take told out ++ wordsOf (answers plan (callsIn (drop at ws))) ≡ wordsOf (said n (callsIn ws))
+  pub drawing : after plan (callsIn (drop at ws)) ≡ drawn τ n (callsIn ws)
+  pub buffer : take told out ++ wordsOf (answers plan (callsIn (drop at ws))) ≡ wordsOf (said τ n (callsIn ws))
   pub behind : drop told out ≡ drop told before
   pub long : length out ≡ length before
   pub room : 2 * length (callsIn ws) ≤ length before
   pub words : told + 2 * length (callsIn (drop at ws)) ≡ 2 * length (callsIn ws)
 
 -- Before the first call.
-pub going-first : {n : ℕ} {ws out : List ℕ} {a : Arrays} {c : Counts} → Begun n ws out a c → Going n ws out a c 0 0 out
-going-first {n} b =
+pub going-first : {τ : Style} {n : ℕ} {ws out : List ℕ} {a : Arrays} {c : Counts} → Begun τ n ws out a c → Going τ n ws out a c 0 0 out
+going-first {τ} {n} b =
     record {
-      plan = opening n;
+      plan = opening τ n;
       holds = b .holds;
       range = omega arith;
       drawing = refl;
@@ -59,14 +60,14 @@ take-answer out i a h =
 drop-answer : (out : List ℕ) (i : ℕ) (a : Answer) → drop (i + 2) (withAnswer out i a) ≡ drop (i + 2) out
 drop-answer out i a = drop-set-lt (i + 2) (set out i (numberIn a)) (i + 1) (placeIn a) (omega arith) ∙ drop-set-lt (i + 2) out i (numberIn a) (omega arith)
 
-module _ {n : ℕ} {ws before : List ℕ} {a : Arrays} {c : Counts} {at told : ℕ} {out : List ℕ} (g : Going n ws before a c at told out) where
+module _ {τ : Style} {n : ℕ} {ws before : List ℕ} {a : Arrays} {c : Counts} {at told : ℕ} {out : List ℕ} (g : Going τ n ws before a c at told out) where
   -- After the last call.
-  pub going-last : length ws ≤ at → Ended n ws before a c out
+  pub going-last : length ws ≤ at → Ended τ n ws before a c out
   going-last h =
       let none : callsIn (drop at ws) ≡ [] = no-calls ws at h in
       let all : told ≡ 2 * length (callsIn ws) = omega (arith, ap length none, g .words) in
-      let plan : g .plan ≡ drawn n (callsIn ws) = sym (ap (after (g .plan)) none) ∙ g .drawing in
-      let front : take told out ≡ wordsOf (said n (callsIn ws)) =
+      let plan : g .plan ≡ drawn τ n (callsIn ws) = sym (ap (after (g .plan)) none) ∙ g .drawing in
+      let front : take told out ≡ wordsOf (said τ n (callsIn ws)) =
       sym (append-nil (take told out)) ∙ ap (λ (cs : List (List ℕ)). take told out ++ wordsOf (answers (g .plan) cs)) (sym none) ∙ g .buffer
       in
       record {
@@ -98,7 +99,7 @@ module _ {n : ℕ} {ws before : List ℕ} {a : Arrays} {c : Counts} {at told : �
         }
 
     -- One turn.
-    pub turn : {a′ : Arrays} {c′ : Counts} {out′ : List ℕ} → Made a c es out told a′ c′ out′ → Going n ws before a′ c′ end (told + 2) out′
+    pub turn : {a′ : Arrays} {c′ : Counts} {out′ : List ℕ} → Made a c es out told a′ c′ out′ → Going τ n ws before a′ c′ end (told + 2) out′
     turn m =
         let k = called (g .holds) es in
         let told-now = answer (judged a c es) in

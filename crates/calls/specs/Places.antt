@@ -8,6 +8,7 @@ use lib.Dec.{leb, ltb, eqb}
 use Rattle.rules.specs.declared.Refusal.{Refusal}
 use Rattle.rules.specs.declared.Refusal.the-variants.{Finished, FewEntries, BothMarks, NotPlaced, Covered, NoRun, NotWhole, NoReach}
 use Rattle.rules.specs.Refusals.{Result, good, refused, answer, _>>_, refuseIf}
+use Rattle.rules.specs.Styles.{reachPasses}
 use Rattle.rules.specs.Entries.{readEntry, isBoth}
 use Rattle.store_links.specs.declared.Counts.{Counts}
 use Rattle.store_links.specs.Arrays.{Arrays, atPoint}
@@ -63,7 +64,7 @@ judged-within : (a : Arrays) (c : Counts) (es : List ℕ) → Within (length es)
 unfolding judged
 judged-within a c es =
     then (passes-within (a .owner) (a .next) (c .n) (c .k) (c .m) es)
-    (one (not (allReachFrom (spotFor a es) (a .gap) (a .ys) es 1 (innerCount es))) NoReach 0 (omega arith))
+    (one (not (reachPasses (c .style) (allReachFrom (spotFor (c .style) a es) (a .gap) (a .ys) es 1 (innerCount es)))) NoReach 0 (omega arith))
 
 -- The place of a call's answer.
 pub place-most : (a : Arrays) (c : Counts) (es : List ℕ) → placeIn (answer (judged a c es)) ≤ length es

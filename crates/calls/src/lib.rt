@@ -1,10 +1,11 @@
-// A whole list of calls in one function: document 01's demand 3 as one claim about the program.
+// A whole list of calls in one function: demand 3 of document 01 and wish 2 of document 02 as one claim about the program.
 use drawing::Done;
 use drawing::Drawing;
 use rules::Answer;
 use rules::FEWEST_POINTS;
 use rules::MOST_POINTS;
 use rules::Refusal;
+use rules::Style;
 use store_links::Added;
 use store_links::Counts;
 use store_tables::END;
@@ -30,8 +31,8 @@ fn one_call(table: &mut Table, c: Counts, e: &[u16], answers: &mut [u16], at: us
 
 // All calls on the lent table, from the drawing as opened, with their answers in the buffer; gives the numbers after them.
 fn all_calls(table: &mut Table, opened: Counts, calls: &[u16], answers: &mut [u16]) -> Counts
-    requires { ⌜ Begun (opened .n) (now calls) (now answers) (arraysIn (now table)) opened ⌝ }
-    ensures { λ r. ⌜ Ended (opened .n) (now (calls .entry)) (now (answers .entry)) (arraysIn (now (table .exit))) r (now (answers .exit)) ⌝ }
+    requires { ⌜ Begun (opened .style) (opened .n) (now calls) (now answers) (arraysIn (now table)) opened ⌝ }
+    ensures { λ r. ⌜ Ended (opened .style) (opened .n) (now (calls .entry)) (now (answers .entry)) (arraysIn (now (table .exit))) r (now (answers .exit)) ⌝ }
 {
     let mut counts = opened;
     let mut told = 0;
@@ -47,12 +48,18 @@ fn all_calls(table: &mut Table, opened: Counts, calls: &[u16], answers: &mut [u1
     counts
 }
 
-// Opens a drawing for n points in a table of zeros and makes all calls on it, with their answers in the buffer; gives the numbers after them.
-fn draw_calls(table: &mut Table, n: usize, calls: &[u16], answers: &mut [u16]) -> Counts
-    requires { ⌜ Runs n (now calls) (now answers) × (now table ≡ zeros) ⌝ }
-    ensures { λ r. ⌜ Ended n (now (calls .entry)) (now (answers .entry)) (arraysIn (now (table .exit))) r (now (answers .exit)) ⌝ }
+// Opens a drawing of this style for n points in a table of zeros and makes all calls on it, with their answers in the buffer; gives the numbers after them.
+fn draw_calls(
+    table: &mut Table,
+    style: Style,
+    n: usize,
+    calls: &[u16],
+    answers: &mut [u16],
+) -> Counts
+    requires { ⌜ Runs style n (now calls) (now answers) × (now table ≡ zeros) ⌝ }
+    ensures { λ r. ⌜ Ended style n (now (calls .entry)) (now (answers .entry)) (arraysIn (now (table .exit))) r (now (answers .exit)) ⌝ }
 {
-    let opened = store_points::open_in(table, n, 1, 1, 1, 2);
+    let opened = store_points::open_in(table, style, n, 1, 1, 1, 2);
     all_calls(table, opened, calls, answers)
 }
 
@@ -66,11 +73,17 @@ fn refuse(why: Refusal) -> Added
     }
 }
 
-// Makes the calls that the words hold on a drawing opened for n points; each answer takes two words of the buffer.
+// Makes the calls that the words hold on a drawing of this style opened for n points; each answer takes two words of the buffer.
 // For `panel_c`, which has no drawing by value: it asks for a table of zeros, and leaves it so where it refuses.
-pub fn run_in(table: &mut Table, n: usize, calls: &[u16], answers: &mut [u16]) -> Added
+pub fn run_in(
+    table: &mut Table,
+    style: Style,
+    n: usize,
+    calls: &[u16],
+    answers: &mut [u16],
+) -> Added
     requires { ⌜ now table ≡ zeros ⌝ }
-    ensures { λ r. ⌜ Ran n (now (calls .entry)) (now (answers .entry)) (now (answers .exit)) (doneIn r (now (table .exit))) ⌝ }
+    ensures { λ r. ⌜ Ran style n (now (calls .entry)) (now (answers .entry)) (now (answers .exit)) (doneIn r (now (table .exit))) ⌝ }
 {
     if n < FEWEST_POINTS {
         return refuse(Refusal::OutOfRange);
@@ -82,7 +95,7 @@ pub fn run_in(table: &mut Table, n: usize, calls: &[u16], answers: &mut [u16]) -
     if answers.len() < needed {
         return refuse(Refusal::OutputShort);
     }
-    let counts = draw_calls(table, n, calls, answers);
+    let counts = draw_calls(table, style, n, calls, answers);
     Added {
         answer: Answer::Accepted,
         counts,
@@ -90,11 +103,11 @@ pub fn run_in(table: &mut Table, n: usize, calls: &[u16], answers: &mut [u16]) -
 }
 
 // The same, with the drawing by value.
-pub fn run(n: usize, calls: &[u16], answers: &mut [u16]) -> Done
-    ensures { λ r. ⌜ Ran n (now (calls .entry)) (now (answers .entry)) (now (answers .exit)) r ⌝ }
+pub fn run(style: Style, n: usize, calls: &[u16], answers: &mut [u16]) -> Done
+    ensures { λ r. ⌜ Ran style n (now (calls .entry)) (now (answers .entry)) (now (answers .exit)) r ⌝ }
 {
     let mut table = [0u16; END];
-    let made = run_in(&mut table, n, calls, answers);
+    let made = run_in(&mut table, style, n, calls, answers);
     let answer = made.answer;
     let counts = made.counts;
     let drawing = Drawing { counts, table };

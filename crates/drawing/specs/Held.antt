@@ -1,8 +1,8 @@
--- A stored drawing is one drawing of the rules, and that one keeps demand 3 and is exact.
+-- A stored drawing is one drawing of the rules, and that one keeps the promise of its style and is exact.
 use mathlib.Core.Path.{_≡_}
 use Rattle.rules.specs.Points.{Drawing as Plan}
-use Rattle.promise.specs.Promise.{Promise}
-use Rattle.promise.specs.Exact.{Exact}
+use Rattle.promise.specs.Promise.{Promised}
+use Rattle.promise.specs.Exact.{ExactBy}
 use Rattle.exchange.specs.Kept.{reached-keeps, reached-exact}
 use Rattle.store_links.specs.declared.Counts.{Counts}
 use Rattle.store_links.specs.Arrays.{Arrays}
@@ -23,10 +23,10 @@ is-one d h g = holds-one h g
 pub came-one : (d : Drawing) (c : Came d) (p : Plan) → Is p d → p ≡ c .plan
 came-one d c p h = is-one d h (c .is)
 
--- And that one keeps demand 3.
-pub came-keeps : (d : Drawing) (c : Came d) → Promise (c .plan)
+-- And that one keeps the promise of its style.
+pub came-keeps : (d : Drawing) (c : Came d) → Promised (c .plan .style) (c .plan)
 came-keeps d c = reached-keeps (c .plan) (c .reached)
 
 -- In it no subtraction of the rules truncates.
-pub came-exact : (d : Drawing) (c : Came d) → Exact (c .plan)
+pub came-exact : (d : Drawing) (c : Came d) → ExactBy (c .plan .style) (c .plan)
 came-exact d c = reached-exact (c .plan) (c .reached)

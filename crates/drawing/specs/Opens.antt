@@ -3,6 +3,7 @@ use Prim.Native.Nat.{ℕ, _<_, _≤_}
 use mathlib.Core.Path.{_≡_, refl, sym, ap, _∙_}
 use mathlib.Core.Bool.{true, false}
 use borrow.Author.Tests.{le-leb, lt-leb}
+use Rattle.rules.specs.declared.Style.{Style}
 use Rattle.rules.specs.declared.Kind.the-variants.{Plain}
 use Rattle.rules.specs.declared.Answer.the-variants.{Accepted, Refused}
 use Rattle.rules.specs.declared.Refusal.the-variants.{OutOfRange}
@@ -42,37 +43,37 @@ came-given {o} {r} g e = go o (g .answer) (g .drawing)
     go (good p) a d = d .1
     go (refused f p) a d = absurd (never-gives (sym a ∙ ap toldAnswer e))
 
-abbrev pub Opens : ℕ → Done → Type 0
-Opens n r = Gives (opened n) r
+abbrev pub Opens : Style → ℕ → Done → Type 0
+Opens τ n r = Gives (opened τ n) r
 
-module _ (n : ℕ) {d : Drawing} (q : d ≡ blank) where
-  refuses : between 3 1024 n ≡ false → Opens n (record { answer = Refused OutOfRange 0; drawing = d })
+module _ (τ : Style) (n : ℕ) {d : Drawing} (q : d ≡ blank) where
+  refuses : between 3 1024 n ≡ false → Opens τ n (record { answer = Refused OutOfRange 0; drawing = d })
   refuses e = record { answer = rw e; drawing = rw e q }
 
   -- Refused: too few points, and too many.
-  pub refuses-few : n < 3 → Opens n (record { answer = Refused OutOfRange 0; drawing = d })
+  pub refuses-few : n < 3 → Opens τ n (record { answer = Refused OutOfRange 0; drawing = d })
   refuses-few h = refuses (rw (lt-leb 3 n h))
 
-  pub refuses-many : 3 ≤ n → 1024 < n → Opens n (record { answer = Refused OutOfRange 0; drawing = d })
+  pub refuses-many : 3 ≤ n → 1024 < n → Opens τ n (record { answer = Refused OutOfRange 0; drawing = d })
   refuses-many l h = refuses (rw (le-leb 3 n l, lt-leb n 1024 h))
 
 -- d is the drawing as the program opens it: all three lines are cut
-pub record OpenFor (n : ℕ) (d : Drawing) : Type 0 where
-  pub arrays : arraysIn (d .table) ≡ openArrays 1 1 2
-  pub counts : d .counts ≡ openCounts n 1
+pub record OpenFor (τ : Style) (n : ℕ) (d : Drawing) : Type 0 where
+  pub arrays : arraysIn (d .table) ≡ openArrays τ 1 1 2
+  pub counts : d .counts ≡ openCounts τ n 1
 
-module _ (n : ℕ) (low : 3 ≤ n) (high : n ≤ 1024) {d : Drawing} (o : OpenFor n d) where
-  open-is : Is (opening n) d
+module _ (τ : Style) (n : ℕ) (low : 3 ≤ n) (high : n ≤ 1024) {d : Drawing} (o : OpenFor τ n d) where
+  open-is : Is (opening τ n) d
   open-is =
       rw (o .arrays, o .counts)
       (record {
-        standing = standing-start n 1 Plain Plain Plain low high;
-        sized = sized-open n 1 Plain Plain Plain 1 1 2;
-        stores = stores-open n 1 Plain Plain Plain 1 1 2 refl refl refl;
+        standing = standing-start τ n 1 Plain Plain Plain low high;
+        sized = sized-open τ n 1 Plain Plain Plain 1 1 2;
+        stores = stores-open τ n 1 Plain Plain Plain 1 1 2 refl refl refl;
       })
 
   -- Accepted.
-  pub opens : Opens n (record { answer = Accepted; drawing = d })
+  pub opens : Opens τ n (record { answer = Accepted; drawing = d })
   opens =
       let e : between 3 1024 n ≡ true = rw (le-leb 3 n low, le-leb n 1024 high) in
-      record { answer = rw e; drawing = rw e (open-is, record { plan = opening n; reached = reached-opening n low high; is = open-is }) }
+      record { answer = rw e; drawing = rw e (open-is, record { plan = opening τ n; reached = reached-opening τ n low high; is = open-is }) }

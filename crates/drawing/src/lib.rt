@@ -6,6 +6,7 @@ use rules::Answer;
 use rules::FEWEST_POINTS;
 use rules::MOST_POINTS;
 use rules::Refusal;
+use rules::Style;
 use store_links::Counts;
 use store_tables::END;
 use store_tables::POINTS;
@@ -49,17 +50,17 @@ pub fn no_drawing() -> Drawing
 }
 
 // The drawing as opened: points 1, 2, 3 and their three cut lines.
-fn as_opened(n: usize) -> Drawing
-    ensures { λ r. ⌜ OpenFor n r ⌝ }
+fn as_opened(style: Style, n: usize) -> Drawing
+    ensures { λ r. ⌜ OpenFor style n r ⌝ }
 {
     let mut table = [0u16; END];
-    let counts = store_points::open_in(&mut table, n, 1, 1, 1, 2);
+    let counts = store_points::open_in(&mut table, style, n, 1, 1, 1, 2);
     Drawing { counts, table }
 }
 
-// Opens a drawing for n points.
-pub fn open(n: usize) -> Done
-    ensures { λ r. ⌜ Opens n r ⌝ }
+// Opens a drawing of this style for n points.
+pub fn open(style: Style, n: usize) -> Done
+    ensures { λ r. ⌜ Opens style n r ⌝ }
 {
     if n < FEWEST_POINTS || MOST_POINTS < n {
         return Done {
@@ -69,7 +70,7 @@ pub fn open(n: usize) -> Done
     }
     Done {
         answer: Answer::Accepted,
-        drawing: as_opened(n),
+        drawing: as_opened(style, n),
     }
 }
 
@@ -114,7 +115,7 @@ pub fn point(d: Drawing, p: usize) -> PointSeen
     point_at(settle(d), p)
 }
 
-// A line with its ends, bend and kind, and where its bend lies.
+// A line with its ends and kind, and, in a one-bend drawing, its bend and where that lies.
 pub fn line_at(v: Placed, e: usize) -> LineSeen
     requires { ⌜ IsPlaced v ⌝ }
     ensures { λ r. ⌜ ((q : Plan) → Is q (v .drawing) → toldLine r ≡ told (lookLine q e)) ⌝ }

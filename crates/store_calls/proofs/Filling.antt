@@ -9,9 +9,10 @@ use lib.ListN.{getD, set}
 use lib.Dec.{eqb, ltb}
 use Rattle.rules.specs.declared.Bend.the-variants.{Left, Right, Middle}
 use Rattle.rules.specs.Basics.{if_then_else_}
+use Rattle.rules.specs.Adding.{newBend}
 use Rattle.store_links.specs.Codes.{rightPort, leftPort, bendCode}
 use Rattle.store_links.specs.Arrays.{Arrays}
-use Rattle.store_links.specs.Storing.{codeOf, filled}
+use Rattle.store_links.specs.Storing.{filled}
 use Rattle.store_tables.specs.Tables.{from, Keeps, arrays-store, wordsR, laterR, bendsR}
 use Rattle.store_calls.specs.Stages.{lined}
 
@@ -24,7 +25,7 @@ line-more t a es at v i x code k h e =
     (arrays-store bendsR (at + i) x (arrays-store laterR (at + i) v (arrays-store wordsR (at + i) (getD es i 0) k refl h) refl h) refl h)
 
 -- The number of a new line's bend fits.
-pub code-fits : (rights lefts last from i : ℕ) → rightPort + rights < 65536 → leftPort + lefts < 65536 → i < 3072 → codeOf rights lefts last from i < 65536
+pub code-fits : (rights lefts last from i : ℕ) → rightPort + rights < 65536 → leftPort + lefts < 65536 → i < 3072 → bendCode (newBend rights lefts last from i) < 65536
 code-fits rights lefts last from i hr hl hi = go (eqb i 0) (eqb i last) (ltb i from)
   where
     go : (s t u : Bool) → bendCode (if s then Right rights else if t then Left lefts else Middle (if u then i else suc i)) < 65536

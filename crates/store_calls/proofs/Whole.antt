@@ -5,6 +5,9 @@ use mathlib.Core.List.{List}
 use native.Mathlib.Numerals.{add-one}
 use native.Mathlib.Omega.{arith}
 use lib.ListN.{length}
+use Rattle.rules.specs.declared.Style.{Style}
+use Rattle.rules.specs.declared.Style.the-variants.{OneBend, Straight}
+use Rattle.rules.specs.Styles.{taken}
 use Rattle.store_links.specs.declared.Spot.{Spot}
 use Rattle.store_links.specs.declared.Counts.{Counts}
 use Rattle.store_links.specs.Arrays.{Arrays, atPoint}
@@ -20,6 +23,11 @@ pub record Run (a : Arrays) (c : Counts) (es : List ℕ) (p : Spot) (wl wr : ℕ
   pub call : Storable a c es p
   pub left : wl ≡ entryPoint es 0
   pub right : wr ≡ entryPoint es (length es - 1)
+
+-- A count grows by 1 at most.
+taken-most : (τ : Style) (n : ℕ) → taken τ n ≤ suc n
+taken-most OneBend n = omega arith
+taken-most Straight n = omega arith
 
 pub coverable : {a : Arrays} {c : Counts} {es : List ℕ} {p : Spot} → Storable a c es p → Coverable es (a .gap) p
 coverable s =
@@ -63,20 +71,20 @@ module _ {a : Arrays} {c : Counts} {es : List ℕ} {p : Spot} {wl wr : ℕ} (r :
   left-ports = record { new = new-point; old = right-point; room = rw (r .right) (omega (arith, r .call .lefts)) }
 
   -- rights and lefts are the indexes of the new ports
-  module _ {rights lefts : ℕ} (hr : rights ≡ suc (atPoint (a .drs) wl)) (hl : lefts ≡ suc (atPoint (a .dls) wr)) where
+  module _ {rights lefts : ℕ} (hr : rights ≡ taken (c .style) (atPoint (a .drs) wl)) (hl : lefts ≡ taken (c .style) (atPoint (a .dls) wr)) where
     pub pushable : Pushable es c rights lefts
     pushable =
         record {
           entries = omega (arith, r .call .entries);
           points = r .call .points;
           lines = r .call .lines;
-          right-code = rw (hr, r .left) (omega (arith, r .call .rights));
-          left-code = rw (hl, r .right) (omega (arith, r .call .lefts));
+          right-code = rw (hr, r .left) (omega (arith, r .call .rights, taken-most (c .style) (atPoint (a .drs) (entryPoint es 0))));
+          left-code = rw (hl, r .right) (omega (arith, r .call .lefts, taken-most (c .style) (atPoint (a .dls) (entryPoint es (length es - 1)))));
         }
 
     -- the stages make the whole
     pub whole :
         (from : ℕ) {new : ℕ} → new ≡ c .k + 1 →
-        lined (ported (linked (covered a es p new (innerCount es)) (c .k + 1) wl wr p) (c .k + 1) wl wr) es (c .lines) (suc (c .k)) (codeOf rights lefts (length es - 1) from) (length es) ≡ withPoint a c es p from
+        lined (ported (c .style) (linked (covered a es p new (innerCount es)) (c .k + 1) wl wr p) (c .k + 1) wl wr) es (c .lines) (suc (c .k)) (codeOf (c .style) rights lefts (length es - 1) from) (length es) ≡ withPoint a c es p from
     unfolding withPoint
     whole from hn = rw (hr, hl, hn, r .left, r .right, add-one)

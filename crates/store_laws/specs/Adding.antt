@@ -42,7 +42,7 @@ add-by d rs = refl
 
 module _ {d : Drawing} {a : Arrays} {c : Counts} (h : Holds d a c) (es : List ℕ) where
   -- accepted: the drawing with the new point
-  taken : (e : Drawing) → add d es ≡ good e → Holds e (withPoint a c es (spotFor a es) (changeFor a es)) (countsAfter (good tt) c es)
+  taken : (e : Drawing) → add d es ≡ good e → Holds e (withPoint a c es (spotFor (c .style) a es) (changeFor (c .style) a es)) (countsAfter (good tt) c es)
   taken e given =
       let q = add-entries d e es given in
       let s = h .standing .sound in
@@ -51,10 +51,10 @@ module _ {d : Drawing} {a : Arrays} {c : Counts} (h : Holds d a c) (es : List �
       let room : d .k < 1024 = omega (arith, k .room, h .standing .ranged .high) in
       record {
         standing = standing-added d e (map entryOf es) (h .standing) q;
-        sized = sized-with a c es (spotFor a es) (changeFor a es) (h .sized);
+        sized = sized-with a c es (spotFor (c .style) a es) (changeFor (c .style) a es) (h .sized);
         stores =
             rw (k .is)
-            (stores-next d a c es (k .l) (k .r) (spotFor a es) (changeFor a es) s room (h .sized) t (rw (t .k) (run-within es s (k .run))) (run-distinct es s (k .run)) (k .run)
+            (stores-next d a c es (k .l) (k .r) (spotFor (c .style) a es) (changeFor (c .style) a es) s room (h .sized) t (rw (t .k) (run-within es s (k .run))) (run-distinct es s (k .run)) (k .run)
             (spotted es t s (k .run)) (lines-fit d es (k .l) (k .r) s room (k .run)));
       }
 

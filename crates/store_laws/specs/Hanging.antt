@@ -13,7 +13,7 @@ use Rattle.rules.specs.Readings.{entryOf}
 use Rattle.rules.specs.Adding.{inside}
 use Rattle.rules.specs.Moving.{column}
 use Rattle.net.specs.Amounts.{moves}
-use Rattle.net.specs.Frame.{point-in}
+use Rattle.net.specs.Side.{inset-most}
 use Rattle.store_links.specs.declared.Spot.{Spot}
 use Rattle.store_links.specs.declared.Counts.{Counts}
 use Rattle.store_links.specs.Arrays.{Arrays, atPoint, gapOffset}
@@ -25,6 +25,7 @@ use Rattle.promise.specs.Columns.{newOwners, k-next, owners-next, index-is}
 use Rattle.promise.specs.Places as Places
 use Rattle.store_laws.specs.Puts.{gaps-in}
 use Rattle.store_laws.specs.Reading.{entry-is}
+use Rattle.promise.specs.Frames.{wide, framed}
 use Rattle.store_laws.specs.Points.{Call, after, Inner, size, w-low, w-differ, inner-in, inner-entry, taking}
 use Rattle.store_laws.specs.Links.{gapsOver, gap-over, gap-other, x-inner, x-new}
 
@@ -48,10 +49,11 @@ module _ {d : Drawing} {a : Arrays} {c : Counts} {es : List ℕ} {l r : ℕ} {p 
         h .room,
         h .spotted .x,
         h .spotted .rest,
-        h .sound .border .width,
+        wide (h .sound),
+        inset-most (d .style),
         Places.right-x d (map entryOf es) l r (h .sound) (h .run),
         Places.most d (map entryOf es) l r (h .sound) (h .run),
-        point-in (h .sound .inv) (h .sound .border) (pred (w d r)) b .b,
+        framed (h .sound) (pred (w d r)) b .1,
       )
 
   -- A covered entry has the gap to the new point.
@@ -90,7 +92,7 @@ module _ {d : Drawing} {a : Arrays} {c : Counts} {es : List ℕ} {l r : ℕ} {p 
     -- Its owner is placed, in the same column.
     owner-column : (o < d .k) × (column d (suc o) ≡ column d (suc q))
     owner-column =
-        let g = h .sound .inv .core in
+        let g = h .sound .core in
         let cm = g .points .cols q b in
         let n : q ≢ pred (w d (column d (suc q))) = λ t. off-boundary (column d (suc q)) cm (omega (arith, w-low h (column d (suc q)) cm)) in
         let t = g .owners .owned q b n in

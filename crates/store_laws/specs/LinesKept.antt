@@ -10,8 +10,9 @@ use lib.Seq.{getD-append-add}
 use Rattle.rules.specs.declared.Kind.the-variants.{Guide}
 use Rattle.rules.specs.declared.Line.{Line}
 use Rattle.rules.specs.declared.Bend.{Bend}
-use Rattle.rules.specs.declared.Bend.the-variants.{Straight}
-use Rattle.rules.specs.Basics.{nth, grow}
+use Rattle.rules.specs.declared.Bend.the-variants.{NoBend}
+use Rattle.rules.specs.Basics.{nth, alter}
+use Rattle.rules.specs.Styles.{taken, bent}
 use Rattle.rules.specs.Points.{Drawing, dlOf, drOf, w, lineAt}
 use Rattle.rules.specs.Readings.{entryOf}
 use Rattle.rules.specs.Lengths.{length-call, first-at}
@@ -23,7 +24,7 @@ use Rattle.store_links.specs.Arrays.{Arrays, atPoint}
 use Rattle.store_links.specs.Placing.{entryPoint}
 use Rattle.store_links.specs.Storing.{codeOf, filled, withPoint}
 use Rattle.promise.specs.Next.{next}
-use Rattle.promise.specs.Lined.{length-lines, grow-at}
+use Rattle.promise.specs.Lined.{length-lines, alter-at}
 use Rattle.promise.specs.Lines.{changeOf}
 use Rattle.store_laws.specs.Puts.{filled-in, filled-out}
 use Rattle.store_laws.specs.Points.{Call, after, first-w, last-w, lm, w-low}
@@ -36,7 +37,7 @@ lineOf new b e = record { later = new; earlier = entryOf e .point; bend = b; kin
 
 -- what `lineAt` gives where there is no line
 abbrev noLine : Line
-noLine = record { later = 0; earlier = 0; bend = Straight; kind = Guide }
+noLine = record { later = 0; earlier = 0; bend = NoBend; kind = Guide }
 
 -- The new lines, read by index.
 getD-new : (new : ℕ) (f : ℕ → Bend) (q : ℕ) (es : List ℕ) (i : ℕ) (z : Line) → i < length es →
@@ -47,7 +48,7 @@ getD-new new f q (e ∷ es) (suc i) z h = rw (add-suc, ← suc-add) (getD-new ne
 
 -- the bends of the entries' lines
 abbrev newBends : Drawing → List ℕ → ℕ → ℕ → ℕ → Bend
-newBends d es l r = newBend (suc (drOf d (w d l))) (suc (dlOf d (w d r))) (length es - 1) (changeOf d (map entryOf es) l r)
+newBends d es l r i = bent (d .style) (newBend (taken (d .style) (drOf d (w d l))) (taken (d .style) (dlOf d (w d r))) (length es - 1) (changeOf d (map entryOf es) l r) i)
 
 -- line e after the call is an old one, or that of entry i
 data Seen (d : Drawing) (es : List ℕ) (l r e : ℕ) : Type 0 where
@@ -59,7 +60,7 @@ lines-grown : (d : Drawing) (es : List ℕ) (l r : ℕ) →
     after d es l r .lines ≡
     d .lines ++
     newLines (suc (d .k))
-    (newBend (nth (grow (d .drs) (w d l)) (w d l) 0) (nth (grow (d .dls) (w d r)) (w d r) 0) (D (pointsOf (map entryOf es))) (changeOf d (map entryOf es) l r)) 0 (map entryOf es)
+    (λ i. bent (d .style) (newBend (nth (alter (taken (d .style)) (d .drs) (w d l)) (w d l) 0) (nth (alter (taken (d .style)) (d .dls) (w d r)) (w d r) 0) (D (pointsOf (map entryOf es))) (changeOf d (map entryOf es) l r) i)) 0 (map entryOf es)
 unfolding next changeOf
 lines-grown d es l r = refl
 
@@ -71,7 +72,7 @@ module _ {d : Drawing} {a : Arrays} {c : Counts} {es : List ℕ} {l r : ℕ} {p 
       let v = w-low h r (h .run .rm) in
       let s = h .sound .sized in
       lines-grown d es l r ∙
-      rw (grow-at (d .drs) (w d l) (u .0) (omega (arith, s .drs)), grow-at (d .dls) (w d r) (v .0) (omega (arith, s .dls)), length-call es)
+      rw (alter-at (taken (d .style)) (d .drs) (w d l) (u .0) (omega (arith, s .drs)), alter-at (taken (d .style)) (d .dls) (w d r) (v .0) (omega (arith, s .dls)), length-call es)
 
   -- There is one more for each entry.
   pub count-after : length (after d es l r .lines) ≡ length (d .lines) + length es
@@ -132,11 +133,12 @@ module _ {d : Drawing} {a : Arrays} {c : Counts} {es : List ℕ} {l r : ℕ} {p 
       go (comes i ib s t) = rw (new-number (λ i. getD es i 0) (a .words) e i (h .sized .words) ib s, t)
 
   -- The code's bend of entry i is the number of the rules' bend.
-  code-kept : (i : ℕ) → codeOf (suc (atPoint (a .drs) (entryPoint es 0))) (suc (atPoint (a .dls) (entryPoint es (length es - 1)))) (length es - 1) from i ≡ bendCode (newBends d es l r i)
+  code-kept : (i : ℕ) → codeOf (c .style) (taken (c .style) (atPoint (a .drs) (entryPoint es 0))) (taken (c .style) (atPoint (a .dls) (entryPoint es (length es - 1)))) (length es - 1) from i ≡ bendCode (newBends d es l r i)
   code-kept i =
       let u = w-low h l (lm h) in
       let v = w-low h r (h .run .rm) in
       rw (
+        h .stores .style,
         first-w h,
         last-w h,
         first-at (a .drs) (d .drs) (d .k) (pred (w d l)) (h .stores .drs) (omega arith),
@@ -150,7 +152,7 @@ module _ {d : Drawing} {a : Arrays} {c : Counts} {es : List ℕ} {l r : ℕ} {p 
   bend-kept e b = go (seen e b)
     where
       code : ℕ → ℕ
-      code = codeOf (suc (atPoint (a .drs) (entryPoint es 0))) (suc (atPoint (a .dls) (entryPoint es (length es - 1)))) (length es - 1) from
+      code = codeOf (c .style) (taken (c .style) (atPoint (a .drs) (entryPoint es 0))) (taken (c .style) (atPoint (a .dls) (entryPoint es (length es - 1)))) (length es - 1) from
 
       go : Seen d es l r e → getD (filled code (a .bends) (c .lines) (length es)) e 0 ≡ bendCode (lineAt (after d es l r) e .bend)
       go (was k t) = old-number code (a .bends) e k ∙ h .stores .bend e k ∙ ap (λ (u : Line). bendCode (u .bend)) (sym t)

@@ -38,7 +38,7 @@ module _ {d : Drawing} {a : Arrays} {c : Counts} {es : List ℕ} {l r : ℕ} {p 
   -- A boundary point moves by the amounts of its index.
   x-on : (i : ℕ) → i < m d → xOf (after d es l r) (w d i) ≡ xOf d (w d i) + moves l r (amount1 d l) (amount2 d l r) i
   x-on i im =
-      let o = h .sound .inv .core .points .on i im in
+      let o = h .sound .core .points .on i im in
       Places.x-old d (map entryOf es) l r (h .sound) (h .run) (pred (w d i)) (o .0) ∙
       ap (λ (n : ℕ). xOf d (w d i) + moves l r (amount1 d l) (amount2 d l r) n) (o .1)
 
@@ -211,10 +211,10 @@ module _ {d : Drawing} {a : Arrays} {c : Counts} {es : List ℕ} {l r : ℕ} {p 
   two-last : (j : ℕ) → suc j < m d → 2 ≢ w d j
   two-last j b e =
       let t : suc (m d - 1) ≡ m d = omega arith in
-      let last : pred (w d (m d - 1)) ≡ 1 = h .sound .inv .core .corners .last (m d - 1) t in
+      let last : pred (w d (m d - 1)) ≡ 1 = h .sound .core .corners .last (m d - 1) t in
       w-differ h j (m d - 1) (omega arith) (omega arith) (omega arith) (omega arith)
 
   -- The last point links to none.
   pub last-kept : atPoint (withPoint a c es p from .next) 2 ≡ 0
   last-kept =
-      next-other 2 (omega arith) (two-last l (omega (arith, h .run .lr, h .run .rm))) (omega (arith, h .sound .inv .core .corners .placed)) ∙ h .stores .last
+      next-other 2 (omega arith) (two-last l (omega (arith, h .run .lr, h .run .rm))) (omega (arith, h .sound .core .corners .placed)) ∙ h .stores .last

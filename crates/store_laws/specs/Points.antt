@@ -8,7 +8,8 @@ use native.Mathlib.Omega.{arith}
 use native.Mathlib.Decide.{ℕ-discrete}
 use lib.ListN.{length, getD, take, set}
 use lib.Seq.{take-suc-set, take-set-lt, set-append-left, length-take-le, getD-take, ext-getD}
-use Rattle.rules.specs.Basics.{grow, snoc, indexOf}
+use Rattle.rules.specs.Basics.{alter, snoc, indexOf}
+use Rattle.rules.specs.Styles.{taken}
 use Rattle.rules.specs.Points.{Drawing, w, m}
 use Rattle.rules.specs.Readings.{entryOf}
 use Rattle.rules.specs.Lengths.{length-call, length-snoc, first-at}
@@ -64,23 +65,23 @@ ownersWith a es v = putAt (ownersOver a es v) v 0
 
 -- ---- plain lists
 
--- To grow element p is to put one more there.
-grow-set : (l : List ℕ) (p : ℕ) → 0 < p → grow l p ≡ set l (pred p) (suc (getD l (pred p) 0))
-grow-set [] p h = refl
-grow-set (x ∷ l) zero h = absurd (omega arith)
-grow-set (x ∷ l) (suc zero) h = refl
-grow-set (x ∷ l) (suc (suc i)) h = ap (λ (t : List ℕ). x ∷ t) (grow-set l (suc i) (omega arith))
+-- To alter element p is to put there what f says of it.
+alter-set : (f : ℕ → ℕ) (l : List ℕ) (p : ℕ) → 0 < p → alter f l p ≡ set l (pred p) (f (getD l (pred p) 0))
+alter-set f [] p h = refl
+alter-set f (x ∷ l) zero h = absurd (omega arith)
+alter-set f (x ∷ l) (suc zero) h = refl
+alter-set f (x ∷ l) (suc (suc i)) h = ap (λ (t : List ℕ). x ∷ t) (alter-set f l (suc i) (omega arith))
 
--- One more number behind the first k, and one more at point p among them.
-take-grown : (l g : List ℕ) (k p : ℕ) → k < length l → 0 < p → p ≤ k → take k l ≡ g → take (suc k) (putAt (putAt l (suc k) 0) p (suc (atPoint l p))) ≡ snoc (grow g p) 0
-take-grown l g k p h z b e =
+-- One more number behind the first k, and what f says of the one at point p among them.
+take-altered : (f : ℕ → ℕ) (l g : List ℕ) (k p : ℕ) → k < length l → 0 < p → p ≤ k → take k l ≡ g → take (suc k) (putAt (putAt l (suc k) 0) p (f (atPoint l p))) ≡ snoc (alter f g p) 0
+take-altered f l g k p h z b e =
     let long : length (take k l) ≡ k = length-take-le k l (omega arith) in
-    take-set-lt (suc k) (set l k 0) (pred p) (suc (atPoint l p)) (omega arith) ∙
-    ap (λ (t : List ℕ). set t (pred p) (suc (atPoint l p))) (take-suc-set l k 0 h) ∙
-    set-append-left (take k l) (0 ∷ []) (pred p) (suc (atPoint l p)) (omega arith) ∙
-    ap (λ (t : List ℕ). snoc (set t (pred p) (suc (atPoint l p))) 0) e ∙
-    ap (λ (n : ℕ). snoc (set g (pred p) (suc n)) 0) (first-at l g k (pred p) e (omega arith)) ∙
-    ap (λ (t : List ℕ). snoc t 0) (sym (grow-set g p z))
+    take-set-lt (suc k) (set l k 0) (pred p) (f (atPoint l p)) (omega arith) ∙
+    ap (λ (t : List ℕ). set t (pred p) (f (atPoint l p))) (take-suc-set l k 0 h) ∙
+    set-append-left (take k l) (0 ∷ []) (pred p) (f (atPoint l p)) (omega arith) ∙
+    ap (λ (t : List ℕ). snoc (set t (pred p) (f (atPoint l p))) 0) e ∙
+    ap (λ (n : ℕ). snoc (set g (pred p) (f n)) 0) (first-at l g k (pred p) e (omega arith)) ∙
+    ap (λ (t : List ℕ). snoc t 0) (sym (alter-set f g p z))
 
 -- One more number behind the first k.
 take-more : (l g : List ℕ) (k v : ℕ) → k < length l → take k l ≡ g → take (suc k) (putAt l (suc k) v) ≡ snoc g v
@@ -141,8 +142,8 @@ module _ {d : Drawing} {a : Arrays} {c : Counts} {es : List ℕ} {l r : ℕ} {p 
   unfolding withPoint
   dls-kept =
       let b = w-low r (h .run .rm) in
-      rw (k-next, h .stores .k, last-w)
-      (take-grown (a .dls) (d .dls) (d .k) (w d r) (omega (arith, h .sized .dls, h .room)) (b .0) (b .1) (h .stores .dls)) ∙
+      rw (k-next, h .stores .k, h .stores .style, last-w)
+      (take-altered (taken (d .style)) (a .dls) (d .dls) (d .k) (w d r) (omega (arith, h .sized .dls, h .room)) (b .0) (b .1) (h .stores .dls)) ∙
       sym (ports-next d (map entryOf es) l r lf)
 
   -- The right ports are the next drawing's.
@@ -150,8 +151,8 @@ module _ {d : Drawing} {a : Arrays} {c : Counts} {es : List ℕ} {l r : ℕ} {p 
   unfolding withPoint
   drs-kept =
       let b = w-low l lm in
-      rw (k-next, h .stores .k, first-w)
-      (take-grown (a .drs) (d .drs) (d .k) (w d l) (omega (arith, h .sized .drs, h .room)) (b .0) (b .1) (h .stores .drs)) ∙
+      rw (k-next, h .stores .k, h .stores .style, first-w)
+      (take-altered (taken (d .style)) (a .drs) (d .drs) (d .k) (w d l) (omega (arith, h .sized .drs, h .room)) (b .0) (b .1) (h .stores .drs)) ∙
       sym (ports-next d (map entryOf es) l r rt)
 
   -- ---- owners

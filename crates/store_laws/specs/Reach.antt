@@ -1,6 +1,6 @@
 -- Step 5 by distances: a middle port of the new point reaches an inner point in the drawing exactly where the distances from wl say so.
 use Prim.Native.Nat.{ℕ, suc, _+_, _-_, _*_, _/_, _<_, _≤_}
-use mathlib.Core.Path.{_≡_, refl, sym, ap, ap₂, _∙_}
+use mathlib.Core.Path.{_≡_, refl, sym, ap, ap₂, _∙_, subst}
 use mathlib.Core.Bool.{Bool, true, false, not, _&&_, _||_}
 use mathlib.Core.List.{List, [], _∷_, map}
 use native.Mathlib.Omega.{arith}
@@ -9,6 +9,7 @@ use lib.Dec.{leb}
 use borrow.Author.Tests.{leb-true, leb-false, le-leb, lt-leb}
 use Rattle.rules.specs.declared.Refusal.the-variants.{NoReach}
 use Rattle.rules.specs.Basics.{if_then_else_}
+use Rattle.rules.specs.Styles.{reachPasses}
 use Rattle.rules.specs.Refusals.{refuseIf}
 use Rattle.rules.specs.Results.{then-same}
 use Rattle.rules.specs.Lengths.{length-call}
@@ -79,10 +80,10 @@ module _ (p : Spot) (gap ys es : List ℕ) (x y h : ℕ) (c : Drawing) where
 
 module _ {d : Drawing} {a : Arrays} {c : Counts} (es : List ℕ) {l r : ℕ} (t : Stores d a c) (s : Sound d) (q : IsRun d (map entryOf es) l r) where
   -- An inner point moves by s1.
-  inner-x : (k : ℕ) → 0 < k → l + k < r → xOf d (w d l) + (way (a .gap) es k + spotFor a es .s1) ≡ xOf (spread l r d) (w d (l + k))
+  inner-x : (k : ℕ) → 0 < k → l + k < r → xOf d (w d l) + (way (a .gap) es k + spotFor (d .style) a es .s1) ≡ xOf (spread l r d) (w d (l + k))
   inner-x k low high = go (shift l r (amount1 d l) (amount2 d l r) (l + k) (q .lr))
     where
-      go : Shift l r (amount1 d l) (amount2 d l r) (l + k) → xOf d (w d l) + (way (a .gap) es k + spotFor a es .s1) ≡ xOf (spread l r d) (w d (l + k))
+      go : Shift l r (amount1 d l) (amount2 d l r) (l + k) → xOf d (w d l) + (way (a .gap) es k + spotFor (d .style) a es .s1) ≡ xOf (spread l r d) (w d (l + k))
       go (none b e) = absurd (omega arith)
       go (some b b′ e) = omega (arith, way-is es t s q k (omega arith), spot-s1 es t s q, x-on d (map entryOf es) l r s q (l + k) (omega (arith, q .rm)))
       go (all b e) = absurd (omega arith)
@@ -101,51 +102,55 @@ module _ {d : Drawing} {a : Arrays} {c : Counts} (es : List ℕ) {l r : ℕ} (t 
   inner-count = length-inner (runOf es) ∙ ap (λ n. n - 2) (length-call es)
 
   -- The row is as high.
-  row-is : spotFor a es .h ≡ rowHeight (runOf es)
+  row-is : spotFor (d .style) a es .h ≡ rowHeight (runOf es)
   row-is = spot-h es t s q ∙ ap (λ n. n / 2) (sym (length-call es))
 
   -- The tests agree on the inner points.
-  agree : Agree (spotFor a es) (a .gap) (a .ys) es (newX l r (spread l r d)) (newY l r (spread l r d)) (rowHeight (runOf es)) (spread l r d) 1 (inner (runOf es))
+  agree : Agree (spotFor (d .style) a es) (a .gap) (a .ys) es (newX l r (spread l r d)) (newY l r (spread l r d)) (rowHeight (runOf es)) (spread l r d) 1 (inner (runOf es))
   agree = record { at = at }
     where
       at : (port j k : ℕ) → k ≡ 1 + j → j < length (inner (runOf es)) →
-          portReaches (spotFor a es) (a .gap) (a .ys) es port k ≡
+          portReaches (spotFor (d .style) a es) (a .gap) (a .ys) es port k ≡
           reaches (newX l r (spread l r d)) (newY l r (spread l r d)) (rowHeight (runOf es)) port (xOf (spread l r d) (getD (inner (runOf es)) j 0)) (yOf (spread l r d) (getD (inner (runOf es)) j 0))
       at port j k e b =
           let high : l + k < r = omega (arith, inner-count, run-size es q) in
           let point : w d (l + k) ≡ getD (inner (runOf es)) j 0 = inner-point j k (omega arith) high in
-          reach-plain (xOf d (w d l)) (spotFor a es .dx) _ (spotFor a es .y) _ (spotFor a es .h) _ port (way (a .gap) es k + spotFor a es .s1) _ (atPoint (a .ys) (entryPoint es k)) _
+          reach-plain (xOf d (w d l)) (spotFor (d .style) a es .dx) _ (spotFor (d .style) a es .y) _ (spotFor (d .style) a es .h) _ port (way (a .gap) es k + spotFor (d .style) a es .s1) _ (atPoint (a .ys) (entryPoint es k)) _
           (spot-x es t s q) (spot-y es t s q) row-is (inner-x k (omega arith) high ∙ ap (λ p. xOf (spread l r d) p) point)
           (inner-y k (omega arith) ∙ ap (λ p. yOf d p) point)
 
   -- 25 is the same.
-  pub reach-is : allReachFrom (spotFor a es) (a .gap) (a .ys) es 1 (innerCount es) ≡
+  pub reach-is : allReachFrom (spotFor (d .style) a es) (a .gap) (a .ys) es 1 (innerCount es) ≡
       allReach (newX l r (spread l r d)) (newY l r (spread l r d)) (rowHeight (runOf es)) (spread l r d) 1 (inner (runOf es))
   reach-is =
-      ap (allReachFrom (spotFor a es) (a .gap) (a .ys) es 1) (sym inner-count) ∙ all-same (spotFor a es) (a .gap) (a .ys) es _ _ _ _ 1 (inner (runOf es)) agree
+      ap (allReachFrom (spotFor (d .style) a es) (a .gap) (a .ys) es 1) (sym inner-count) ∙ all-same (spotFor (d .style) a es) (a .gap) (a .ys) es _ _ _ _ 1 (inner (runOf es)) agree
 
   -- So is where the ports change.
-  pub change-is : changeFor a es ≡ changeOf d (map entryOf es) l r
+  pub change-is : changeFor (d .style) a es ≡ changeOf d (map entryOf es) l r
   unfolding changeOf
   change-is =
-      ap (changeFrom (spotFor a es) (a .gap) (a .ys) es 1) (sym inner-count) ∙ change-same (spotFor a es) (a .gap) (a .ys) es _ _ _ _ 1 (inner (runOf es)) agree
+      ap (changeFrom (spotFor (d .style) a es) (a .gap) (a .ys) es 1) (sym inner-count) ∙ change-same (spotFor (d .style) a es) (a .gap) (a .ys) es _ _ _ _ 1 (inner (runOf es)) agree
 
   -- All that the distances say of the drawing.
-  pub spotted : Spotted d es l r (spotFor a es) (changeFor a es)
+  pub spotted : Spotted d es l r (spotFor (c .style) a es) (changeFor (c .style) a es)
   spotted =
-      record {
+      subst (λ τ. Spotted d es l r (spotFor τ a es) (changeFor τ a es)) (sym (t .style))
+      (record {
         x = spot-x es t s q;
         y = spot-y es t s q;
         h = spot-h es t s q;
         s1 = spot-s1 es t s q;
         rest = spot-rest es t s q;
         change = change-is;
-      }
+      })
 
 -- The code judges a call as the rules do.
 pub judged-is : {d : Drawing} {a : Arrays} {c : Counts} → Stores d a c → Sound d → (es : List ℕ) → judged a c es ≡ judge d (map readEntry es)
 unfolding judged
 judged-is {d} {a} {c} t s es =
     then-same (passes (a .owner) (a .next) (c .n) (c .k) (c .m) es) (callTests d (map readEntry es)) _ _ (passes-is t s es)
-    (λ h. ap (λ b. refuseIf (not b) NoReach 0) (reach-is es t s (tests-passed d (map readEntry es) (map entryOf es) (points-read es) (sym (passes-is t s es) ∙ h) .run))) ∙
+    (λ h.
+    ap (λ τ. refuseIf (not (reachPasses τ (allReachFrom (spotFor τ a es) (a .gap) (a .ys) es 1 (innerCount es)))) NoReach 0) (t .style) ∙
+    ap (λ b. refuseIf (not (reachPasses (d .style) b)) NoReach 0)
+    (reach-is es t s (tests-passed d (map readEntry es) (map entryOf es) (points-read es) (sym (passes-is t s es) ∙ h) .run))) ∙
     sym (judge-of d (map readEntry es) (runOf es) (points-read es))

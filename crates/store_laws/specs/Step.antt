@@ -4,6 +4,7 @@ use mathlib.Core.Path.{_≡_, refl, ap, sym, _∙_}
 use mathlib.Core.List.{List, map}
 use native.Mathlib.Omega.{arith}
 use lib.ListN.{length, getD, length-map}
+use Rattle.rules.specs.Styles.{taken}
 use Rattle.rules.specs.Points.{Drawing, m}
 use Rattle.rules.specs.Readings.{entryOf}
 use Rattle.store_links.specs.declared.Spot.{Spot}
@@ -14,7 +15,7 @@ use Rattle.store_links.specs.Runs.{Within, Distinct}
 use Rattle.store_links.specs.Storing.{putAt, coveredGaps, coveredOwners, codeOf, withPoint, withCounts}
 use Rattle.promise.specs.Sound.{Sound}
 use Rattle.promise.specs.Next.{IsRun, next}
-use Rattle.promise.specs.Columns.{k-next}
+use Rattle.promise.specs.Columns.{style-next, k-next}
 use Rattle.promise.specs.Border.{m′}
 use Rattle.promise.specs.Within.{counted}
 use Rattle.store_laws.specs.Spotted.{Spotted}
@@ -37,17 +38,19 @@ sized-with a c es p from z =
     let v = suc (c .k) in
     let wl = entryPoint es 0 in
     let wr = entryPoint es (length es - 1) in
+    let rights = taken (c .style) (atPoint (a .drs) wl) in
+    let lefts = taken (c .style) (atPoint (a .dls) wr) in
     record {
       next = length-two (a .next) v wr wl v 1024 (z .next);
       gap = length-two (coveredGaps (a .gap) es p (innerCount es)) v (p .dx) wr (p .rest) 1024 (length-gaps (a .gap) es p (innerCount es) ∙ z .gap);
       owner = length-put (coveredOwners (a .owner) es v (innerCount es)) v 0 ∙ length-owners (a .owner) es v (innerCount es) ∙ z .owner;
       ys = length-put (a .ys) v (p .y) ∙ z .ys;
-      dls = length-two (a .dls) v 0 wr (suc (atPoint (a .dls) wr)) 1024 (z .dls);
-      drs = length-two (a .drs) v 0 wl (suc (atPoint (a .drs) wl)) 1024 (z .drs);
+      dls = length-two (a .dls) v 0 wr lefts 1024 (z .dls);
+      drs = length-two (a .drs) v 0 wl rights 1024 (z .drs);
       hs = length-put (a .hs) v (p .h) ∙ z .hs;
       words = length-filled (λ i. getD es i 0) (a .words) (c .lines) (length es) ∙ z .words;
       later = length-filled (λ i. v) (a .later) (c .lines) (length es) ∙ z .later;
-      bends = length-filled (codeOf (suc (atPoint (a .drs) wl)) (suc (atPoint (a .dls) wr)) (length es - 1) from) (a .bends) (c .lines) (length es) ∙ z .bends;
+      bends = length-filled (codeOf (c .style) rights lefts (length es - 1) from) (a .bends) (c .lines) (length es) ∙ z .bends;
     }
 
 -- ---- the theorem
@@ -71,6 +74,7 @@ pub stores-call : {d : Drawing} {a : Arrays} {c : Counts} {es : List ℕ} {l r :
     Stores (next d (map entryOf es) l r) (withPoint a c es p from) (withCounts c (length es))
 stores-call {d} {a} {c} {es} {l} {r} {p} {from} h =
     record {
+      style = h .stores .style ∙ sym (style-next d (map entryOf es) l r);
       n = h .stores .n ∙ sym (n-next d es l r);
       s = h .stores .s ∙ sym (s-next d es l r);
       k = ap suc (h .stores .k) ∙ sym (k-next d (map entryOf es) l r);

@@ -1,7 +1,6 @@
 -- The tests before 25 (21, 5, 13, 6, 7, 8, 9) on owners and links are those of the rules, and what the entries of a call that passes them are known to be.
-use Prim.Native.Nat.{ℕ, zero, suc, pred, _+_, _-_, _<_, _≤_}
+use Prim.Native.Nat.{ℕ, zero, suc, pred, _+_, _<_, _≤_}
 use mathlib.Core.Path.{_≡_, refl, sym, ap, ap₂, _∙_}
-use mathlib.Core.Logic.{_≢_}
 use mathlib.Core.Bool.{Bool, true, false, not, _&&_, _||_}
 use mathlib.Core.List.{List, [], _∷_, map}
 use native.Mathlib.Omega.{arith}
@@ -46,7 +45,7 @@ elem-index p (x ∷ b) = go (eqb p x) refl (elem-index p b)
 module _ {d : Drawing} (s : Sound d) where
   -- A point that nobody owns has its own column, which is a boundary index.
   free-on : (p : ℕ) → suc p ≤ d .k → ownerOf d (suc p) ≡ 0 → indexOf (suc p) (d .boundary) < m d
-  free-on p h e = omega (arith, ap (λ (q : ℕ). indexOf q (d .boundary)) (climb-root (d .owners) (d .k) p e), s .inv .core .points .cols p h)
+  free-on p h e = omega (arith, ap (λ (q : ℕ). indexOf q (d .boundary)) (climb-root (d .owners) (d .k) p e), s .core .points .cols p h)
 
   -- So being on the boundary is a test of the owner.
   elem-owner : (p : ℕ) → suc p ≤ d .k → elem (suc p) (d .boundary) ≡ eqb (ownerOf d (suc p)) 0
@@ -113,7 +112,7 @@ module _ {d : Drawing} {a : Arrays} {c : Counts} (t : Stores d a c) (s : Sound d
   -- The last boundary point is point 2, and its link is 0.
   link-last : (j : ℕ) → suc j ≡ m d → atPoint (a .next) (w d j) ≡ 0
   link-last j h =
-      let one : pred (w d j) ≡ 1 = s .inv .core .corners .last j h in
+      let one : pred (w d j) ≡ 1 = s .core .corners .last j h in
       let two : w d j ≡ 2 = omega arith in
       ap (atPoint (a .next)) two ∙ t .last
 
@@ -198,18 +197,19 @@ run-within {d} es {l} {r} s q = record { low = λ i b. placed i b .0; high = λ 
 
 -- No point stands twice in a run: boundary points have columns of their own.
 pub run-distinct : {d : Drawing} (es : List ℕ) {l r : ℕ} → Sound d → IsRun d (map entryOf es) l r → Distinct es
-run-distinct {d} es {l} {r} s q = record { differ = differ }
+run-distinct {d} es {l} {r} s q =
+    record {
+      differ =
+          λ i j ij jb e.
+          let hi : l + i ≤ r = omega (arith, run-size es q) in
+          let hj : l + j ≤ r = omega (arith, run-size es q) in
+          omega (
+            arith,
+            ap (λ p. column d (suc (pred p))) (sym (entry-is es q i hi) ∙ e ∙ entry-is es q j hj),
+            column-is (l + i) hi,
+            column-is (l + j) hj,
+          );
+    }
   where
     column-is : (i : ℕ) → i ≤ r → column d (suc (pred (w d i))) ≡ i
-    column-is i h = s .inv .core .points .on i (omega (arith, q .rm)) .1
-
-    differ : (i j : ℕ) → i < j → j < length es → entryPoint es i ≢ entryPoint es j
-    differ i j ij jb e =
-        let hi : l + i ≤ r = omega (arith, run-size es q) in
-        let hj : l + j ≤ r = omega (arith, run-size es q) in
-        omega (
-          arith,
-          ap (λ p. column d (suc (pred p))) (sym (entry-is es q i hi) ∙ e ∙ entry-is es q j hj),
-          column-is (l + i) hi,
-          column-is (l + j) hj,
-        )
+    column-is i h = s .core .points .on i (omega (arith, q .rm)) .1

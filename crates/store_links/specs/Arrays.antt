@@ -62,6 +62,7 @@ atPoint l p = getD l (pred p) 0
 
 -- the arrays and the numbers store the drawing d
 pub record Stores (d : Drawing) (a : Arrays) (c : Counts) : Type 0 where
+  pub style : c .style ≡ d .style
   pub n : c .n ≡ d .n
   pub s : c .s ≡ d .s
   pub k : c .k ≡ d .k

@@ -1,10 +1,11 @@
 -- Steps 1 to 5 of an adding call by distances from wl, over the run of its entries.
-use Prim.Native.Nat.{ℕ, zero, suc, _+_, _-_, _/_, _%_}
+use Prim.Native.Nat.{ℕ, zero, suc, _+_, _-_, _*_, _/_, _%_}
 use mathlib.Core.Bool.{Bool, true, _&&_, _||_}
 use mathlib.Core.List.{List}
 use lib.ListN.{length, getD}
-use lib.Dec.{eqb}
 use Rattle.rules.specs.Basics.{if_then_else_}
+use Rattle.rules.specs.declared.Style.{Style}
+use Rattle.rules.specs.Styles.{amount, inset}
 use Rattle.rules.specs.Adding.{reaches}
 use Rattle.store_links.specs.declared.Spot.{Spot}
 use Rattle.store_links.specs.Arrays.{atPoint}
@@ -19,25 +20,22 @@ abbrev pub way : List ℕ → List ℕ → ℕ → ℕ
 way gap es zero = 0
 way gap es (suc i) = way gap es i + atPoint gap (entryPoint es (suc i))
 
--- "2 if it is 0, else 1"
-abbrev pub stepOf : ℕ → ℕ
-stepOf count = if eqb count 0 then 2 else 1
-
 -- steps 1 to 4: wr lies `far` to the right of wl, their heights are yl and yr, dr of wl and dl of wr are `rights` and `lefts`, and there are `entries` entries
-abbrev pub widened : ℕ → ℕ → ℕ → ℕ
-widened far rights lefts = far + stepOf rights + stepOf lefts
+abbrev pub widened : Style → ℕ → ℕ → ℕ → ℕ
+widened style far rights lefts = far + amount style rights + amount style lefts
 
-abbrev pub total : ℕ → ℕ → ℕ → ℕ → ℕ → ℕ
-total far yl yr rights lefts = widened far rights lefts + (widened far rights lefts + yl + yr) % 2
+-- step 3 makes the sum of all even, which it is already in a straight drawing
+abbrev pub total : Style → ℕ → ℕ → ℕ → ℕ → ℕ → ℕ
+total style far yl yr rights lefts = widened style far rights lefts + (widened style far rights lefts + yl + yr) % 2
 
-unfoldable pub spotOf : ℕ → ℕ → ℕ → ℕ → ℕ → ℕ → Spot
-spotOf far yl yr rights lefts entries =
+unfoldable pub spotOf : Style → ℕ → ℕ → ℕ → ℕ → ℕ → ℕ → Spot
+spotOf style far yl yr rights lefts entries =
     record {
-      dx = (total far yl yr rights lefts + yr - yl) / 2;
-      y = (total far yl yr rights lefts + yr + yl - 2) / 2;
+      dx = (total style far yl yr rights lefts + yr - yl) / 2;
+      y = (total style far yl yr rights lefts + yr + yl - 2 * inset style) / 2;
       h = entries / 2;
-      s1 = stepOf rights;
-      rest = total far yl yr rights lefts - (total far yl yr rights lefts + yr - yl) / 2;
+      s1 = amount style rights;
+      rest = total style far yl yr rights lefts - (total style far yl yr rights lefts + yr - yl) / 2;
     }
 
 -- middle port `port` of the new point reaches the point of entry i

@@ -2,9 +2,12 @@
 // The structs that its functions pass by value; specs/ says what the arrays hold and what each step does to them.
 use rules::Answer;
 use rules::Bend;
+use rules::Style;
+use styles::bent;
 ghost use mathlib.Core.Path.{_≡_};
 ghost use Prim.Native.Nat.{_<_, _≤_};
 ghost use Rattle.rules.specs.Adding.{newBend};
+ghost use Rattle.rules.specs.Styles as Styles;
 ghost use Rattle.store_links.specs.Codes.{bendCode, bendFrom};
 ghost use Rattle.store_links.specs.Opening.{noCounts};
 ghost use Rattle.store_links.specs.Storing.{withCounts};
@@ -21,8 +24,9 @@ pub const MIDDLE_PORT: u16 = 12288;
 
 pub const NO_PORT: u16 = 0;
 
-// The numbers beside the arrays: n and s as opened, k points, m of them on the boundary, and the lines so far.
+// What stands beside the arrays: which of the two drawings it is, n and s as opened, k points, m of them on the boundary, and the lines so far.
 pub struct Counts {
+    pub style: Style,
     pub n: usize,
     pub s: usize,
     pub k: usize,
@@ -51,6 +55,7 @@ pub fn no_counts() -> Counts
     ensures { λ r. ⌜ r ≡ noCounts ⌝ }
 {
     Counts {
+        style: Style::OneBend,
         n: 0,
         s: 0,
         k: 0,
@@ -64,7 +69,9 @@ pub fn counts_with(c: Counts, entries: usize) -> Counts
     requires { ⌜ (c .k < 1024) × (c .m ≤ 1024) × (c .lines ≤ 3072) × (entries ≤ c .m) ⌝ }
     ensures { λ r. ⌜ r ≡ withCounts c entries ⌝ }
 {
+    let style = c.style;
     Counts {
+        style,
         n: c.n,
         s: c.s,
         k: c.k + 1,
@@ -101,8 +108,17 @@ pub fn bend_code(b: Bend) -> u16
         Bend::Right(j) => RIGHT_PORT + j,
         Bend::Left(j) => LEFT_PORT + j,
         Bend::Middle(i) => MIDDLE_PORT + i,
-        Bend::Straight => NO_PORT,
+        Bend::NoBend => NO_PORT,
     }
+}
+
+// The number of a line's bend; a straight line has none.
+pub fn line_code(style: Style, b: Bend) -> u16
+    requires { ⌜ bendCode b < 65536 ⌝ }
+    ensures { λ r. ⌜ r ≡ bendCode (Styles.bent style b) ⌝ }
+{
+    let kept = bent(style, b);
+    bend_code(kept)
 }
 
 // The bend that such a number means.
@@ -118,5 +134,5 @@ pub fn bend_from(code: u16) -> Bend
     if RIGHT_PORT <= code {
         return Bend::Right(code - RIGHT_PORT);
     }
-    Bend::Straight
+    Bend::NoBend
 }

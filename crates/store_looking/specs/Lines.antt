@@ -1,12 +1,17 @@
--- A line, read from the arrays, is the drawing's; so are its bend and where that lies.
+-- A line, read from the arrays, is the drawing's; so are its bend and where that lies, where lines bend.
 use Prim.Native.Nat.{ℕ, _<_, _≤_}
-use mathlib.Core.Path.{_≡_, _∙_}
+use mathlib.Core.Path.{_≡_, sym, ap, _∙_}
 use mathlib.Core.List.{List}
 use native.Mathlib.Omega.{arith}
 use lib.ListN.{length}
 use borrow.Author.Tests.{le-ltb, lt-ltb}
+use Rattle.rules.specs.declared.Style.{Style}
+use Rattle.rules.specs.declared.Style.the-variants.{OneBend, Straight}
 use Rattle.rules.specs.declared.Line.{Line}
 use Rattle.rules.specs.Points.{Drawing as Plan, lineAt}
+use Rattle.rules.specs.Ports.{bendPlace}
+use Rattle.rules.specs.Styles.{seen}
+use Rattle.rules.specs.Refusals.{good}
 use Rattle.rules.specs.Lookups.{lookLine}
 use Rattle.rules.specs.declared.Refusal.the-variants.{NoSuch}
 use Rattle.store_links.specs.declared.Counts.{Counts}
@@ -38,11 +43,22 @@ module _ {q : Plan} {a : Arrays} {c : Counts} {xs : List ℕ} (h : Holds q a c) 
       let small : q .k ≤ 1024 = omega (arith, h .standing .ranged) in
       rw read (bendable-of shows (h .standing .sound) small e el (s .long))
 
-  pub line-seen : Line.Seen l (bendIn xs a (l .later) (l .earlier) (l .bend)) ≡ lineSeen (lookLine q e)
-  line-seen =
+  -- What the rules give of it, by the style that the numbers name.
+  seen-by : (τ : Style) → c .style ≡ τ → lineSeen (lookLine q e) ≡ lineSeen (good (seen τ (lineAt q e) (bendPlace q (lineAt q e))))
+  seen-by τ b =
+      rw (lt-ltb e (length (q .lines)) el)
+      (ap (λ (σ : Style). lineSeen (good (seen σ (lineAt q e) (bendPlace q (lineAt q e))))) (sym (h .stores .style) ∙ b))
+
+  -- A line with its bend.
+  pub line-seen : c .style ≡ OneBend → Line.Bent l (bendIn xs a (l .later) (l .earlier) (l .bend)) ≡ lineSeen (lookLine q e)
+  line-seen b =
       let v = lineAt q e in
       let p = ends (h .standing) e el in
-      rw (read, lt-ltb e (length (q .lines)) el, bend-right shows (v .later) (v .earlier) (p .0) (p .1) (p .2) (p .3) (v .bend))
+      rw (read, bend-right shows (v .later) (v .earlier) (p .0) (p .1) (p .2) (p .3) (v .bend)) (sym (seen-by OneBend b))
+
+  -- A straight line.
+  pub straight-seen : c .style ≡ Straight → Line.Straight l ≡ lineSeen (lookLine q e)
+  straight-seen b = rw read (sym (seen-by Straight b))
 
 -- no such line
 pub no-line : {q : Plan} {a : Arrays} {c : Counts} → Holds q a c → (e : ℕ) → c .lines ≤ e → Line.Refused NoSuch 0 ≡ lineSeen (lookLine q e)

@@ -5,6 +5,7 @@ use answers::LineSeen;
 use answers::PointSeen;
 use rules::Place;
 use rules::Refusal;
+use rules::Style;
 use store_links::Counts;
 use store_tables::LATER;
 use store_tables::POINTS;
@@ -57,7 +58,7 @@ pub fn look_point(table: &Table, x: &[u16; POINTS], c: Counts, p: usize) -> Poin
     })
 }
 
-// A line with its ends, bend and kind, and where its bend lies, from the table and its settled x.
+// A line with its ends, bend and kind, and where its bend lies, from the table and its settled x. A straight one has no bend.
 pub fn look_line(table: &Table, x: &[u16; POINTS], c: Counts, e: usize) -> LineSeen
     requires { ⌜ Looks c (now table) (now x) ⌝ }
     ensures { λ r. ⌜ ((q : Plan) → Holds q (arraysIn (now (table .entry))) c → r ≡ lineSeen (lookLine q e)) ⌝ }
@@ -66,11 +67,15 @@ pub fn look_line(table: &Table, x: &[u16; POINTS], c: Counts, e: usize) -> LineS
         return LineSeen::Refused(Refusal::NoSuch, 0);
     }
     let l = store_lines::line_in(table, e);
+    let style = c.style;
+    let Style::OneBend = style else {
+        return LineSeen::Straight(l);
+    };
     let to = words::broad(l.later);
     let from = words::broad(l.earlier);
     let b = l.bend;
     let at = store_settling::bend_of(x, table, to, from, b);
-    LineSeen::Seen(l, at)
+    LineSeen::Bent(l, at)
 }
 
 // A line with this entry and this later point is cut and ends at p.

@@ -1,7 +1,10 @@
 // Steps 1 to 5 of an adding call, by distances from wl: where the new point goes, and which ports reach the inner points.
 // Every function reads, none stores.
 // For `store_adding`: they ask for entries that passed the tests, and for numbers that fit.
+use rules::Style;
 use store_links::Spot;
+use styles::amount;
+use styles::inset;
 use words::point_of;
 ghost use mathlib.Core.Path.{_≡_};
 ghost use mathlib.Core.Bool.{_||_};
@@ -9,7 +12,7 @@ ghost use Prim.Native.Nat.{suc, _+_, _-_, _/_, _<_, _≤_};
 ghost use lib.ListN.{length};
 ghost use Rattle.rules.specs.Adding.{reaches};
 ghost use Rattle.store_links.specs.Arrays.{atPoint};
-ghost use Rattle.store_links.specs.Placing.{entryPoint, way, stepOf, spotOf, changeFrom, allReachFrom, innerCount};
+ghost use Rattle.store_links.specs.Placing.{entryPoint, way, spotOf, changeFrom, allReachFrom, innerCount};
 ghost use Rattle.store_links.specs.Runs.{Within};
 ghost use Rattle.store_placing.specs.Small.{Small};
 ghost use Rattle.store_placing.specs.Ports.{portsFor};
@@ -60,13 +63,6 @@ pub fn way_over(e: &[u16], gap: &[u16]) -> usize
     far
 }
 
-// s1 and s2: 2 if the count of ports is 0, else 1.
-fn step_of(count: u16) -> usize
-    ensures { λ r. ⌜ (r ≡ stepOf count) × (0 < r) × (r ≤ 2) ⌝ }
-{
-    if count == 0 { 2 } else { 1 }
-}
-
 // h: the height of the middle row, D/2 rounded up, where D is one less than the entries.
 fn row_height(entries: usize) -> usize
     ensures { λ r. ⌜ r ≡ entries / 2 ⌝ }
@@ -75,23 +71,29 @@ fn row_height(entries: usize) -> usize
 }
 
 // Steps 1 to 4: where the new point goes, if wr lies `far` to the right of wl.
-pub fn spot_of(far: usize, yl: u16, yr: u16, rights: u16, lefts: u16, entries: usize) -> Spot
+pub fn spot_of(
+    style: Style,
+    far: usize,
+    yl: u16,
+    yr: u16,
+    rights: u16,
+    lefts: u16,
+    entries: usize,
+) -> Spot
     requires { ⌜ (far < 4294967296) × (yl ≤ far + yr) × (yr ≤ far + yl) ⌝ }
-    ensures { λ r. ⌜ r ≡ spotOf far yl yr rights lefts entries ⌝ }
+    ensures { λ r. ⌜ r ≡ spotOf style far yl yr rights lefts entries ⌝ }
 {
-    let s1 = step_of(rights);
-    let widened = far + s1 + step_of(lefts);
+    let s1 = amount(style, rights);
+    let widened = far + s1 + amount(style, lefts);
     let left = broad(yl);
     let right = broad(yr);
     let total = widened + (widened + left + right) % 2;
     let dx = (total + right - left) / 2;
-    Spot {
-        dx: dx,
-        y: (total + right + left - 2) / 2,
-        h: row_height(entries),
-        s1: s1,
-        rest: total - dx,
-    }
+    let inside = inset(style);
+    let y = (total + right + left - 2 * inside) / 2;
+    let h = row_height(entries);
+    let rest = total - dx;
+    Spot { dx, y, h, s1, rest }
 }
 
 // Whether a middle port of the new point reaches the point a to the right of wl, at height y.

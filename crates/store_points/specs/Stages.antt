@@ -1,6 +1,8 @@
 -- The arrays after each stage of storing a new point.
-use Prim.Native.Nat.{ℕ, suc}
+use Prim.Native.Nat.{ℕ}
 use mathlib.Core.List.{List}
+use Rattle.rules.specs.declared.Style.{Style}
+use Rattle.rules.specs.Styles.{taken}
 use Rattle.store_links.specs.declared.Spot.{Spot}
 use Rattle.store_links.specs.Arrays.{Arrays, atPoint}
 use Rattle.store_links.specs.Storing.{putAt, coveredGaps, coveredOwners}
@@ -16,9 +18,9 @@ linked a v wl wr p =
     changed hsR (λ l. putAt l v (p .h)) (changed ysR (λ l. putAt l v (p .y)) (changed ownerR (λ l. putAt l v 0)
     (changed gapR (λ l. putAt (putAt l v (p .dx)) wr (p .rest)) (changed nextR (λ l. putAt (putAt l v wr) wl v) a))))
 
--- point v has no port at a side, and point w one more
-abbrev pub grown : List ℕ → ℕ → ℕ → List ℕ
-grown l v w = putAt (putAt l v 0) w (suc (atPoint l w))
+-- point v has no port at a side, and point w one more where lines take ports
+abbrev pub grown : Style → List ℕ → ℕ → ℕ → List ℕ
+grown style l v w = putAt (putAt l v 0) w (taken style (atPoint l w))
 
-abbrev pub ported : Arrays → ℕ → ℕ → ℕ → Arrays
-ported a v wl wr = changed dlsR (λ l. grown l v wr) (changed drsR (λ l. grown l v wl) a)
+abbrev pub ported : Style → Arrays → ℕ → ℕ → ℕ → Arrays
+ported style a v wl wr = changed dlsR (λ l. grown style l v wr) (changed drsR (λ l. grown style l v wl) a)

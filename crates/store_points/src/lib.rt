@@ -1,11 +1,12 @@
 // The words of points in the lent table: those of a drawing as opened, and what changes at the points of a run and at the new point.
 // For the crates above: opening asks for a table of zeros, the others for a run that passed the tests and for the new point's place.
+use rules::Bend;
+use rules::Style;
 use store_links::Counts;
 use store_links::GAP_OFFSET;
-use store_links::LEFT_PORT;
 use store_links::NO_PORT;
-use store_links::RIGHT_PORT;
 use store_links::Spot;
+use store_links::line_code;
 use store_tables::BENDS;
 use store_tables::DLS;
 use store_tables::DRS;
@@ -17,12 +18,16 @@ use store_tables::OWNER;
 use store_tables::Table;
 use store_tables::WORDS;
 use store_tables::YS;
+use styles::taken;
+use styles::third_x;
+use styles::third_y;
 use words::broad;
 use words::narrow;
 use words::point_of;
 ghost use mathlib.Core.Path.{_≡_};
-ghost use Prim.Native.Nat.{suc, pred, _+_, _<_, _≤_};
+ghost use Prim.Native.Nat.{pred, _+_, _<_, _≤_};
 ghost use lib.ListN.{length, set};
+ghost use Rattle.rules.specs.Styles as Styles;
 ghost use Rattle.store_links.specs.Arrays.{atPoint};
 ghost use Rattle.store_links.specs.Placing.{innerCount};
 ghost use Rattle.store_links.specs.Storing.{putAt};
@@ -71,13 +76,13 @@ pub fn link(table: &mut [u16], v: usize, wl: usize, wr: usize, p: Spot)
     put(table, HS, v, p.h);
 }
 
-// The new point v has no port on this side, and w has one more: its index.
-pub fn grow_ports(ports: &mut [u16], v: usize, w: usize) -> u16
+// The new point v has no port on this side, and w has one more, where lines take ports: its index.
+pub fn grow_ports(ports: &mut [u16], style: Style, v: usize, w: usize) -> u16
     requires { ⌜ Growable (now ports) v w × (length (now ports) ≡ 1024) ⌝ }
-    ensures grown { λ r. ⌜ now (ports .exit) ≡ putAt (putAt (now (ports .entry)) v 0) w (suc (atPoint (now (ports .entry)) w)) ⌝ }
-    ensures index { λ r. ⌜ r ≡ suc (atPoint (now (ports .entry)) w) ⌝ }
+    ensures grown { λ r. ⌜ now (ports .exit) ≡ putAt (putAt (now (ports .entry)) v 0) w (Styles.taken style (atPoint (now (ports .entry)) w)) ⌝ }
+    ensures index { λ r. ⌜ r ≡ Styles.taken style (atPoint (now (ports .entry)) w) ⌝ }
 {
-    let index = ports[w - 1] + 1;
+    let index = taken(style, ports[w - 1]);
     ports[v - 1] = 0;
     ports[w - 1] = index;
     index
@@ -93,25 +98,34 @@ fn three(table: &mut Table, at: usize, a: u16, b: u16, c: u16)
     table[at + 2] = c;
 }
 
-// The bends of lines 3-1 and 3-2.
-const FIRST_RIGHT: u16 = RIGHT_PORT + 1;
-
-const FIRST_LEFT: u16 = LEFT_PORT + 1;
-
-// The three points and lines of a drawing as opened for n points at the scale s, in a table of zeros; a, b and c are the entries of lines 1-2, 3-1 and 3-2.
-pub fn open_in(table: &mut Table, n: usize, s: usize, a: u16, b: u16, c: u16) -> Counts
+// The three points and lines of a drawing of that style as opened for n points at the scale s, in a table of zeros; a, b and c are the entries of lines 1-2, 3-1 and 3-2.
+pub fn open_in(
+    table: &mut Table,
+    style: Style,
+    n: usize,
+    s: usize,
+    a: u16,
+    b: u16,
+    c: u16,
+) -> Counts
     requires { ⌜ now table ≡ zeros ⌝ }
-    ensures { λ r. ⌜ (arraysIn (now (table .exit)) ≡ openArrays a b c) × (r ≡ openCounts n s) ⌝ }
+    ensures { λ r. ⌜ (arraysIn (now (table .exit)) ≡ openArrays style a b c) × (r ≡ openCounts style n s) ⌝ }
 {
+    let x = third_x(style);
+    let y = third_y(style);
+    let ports = taken(style, 0);
+    let right = line_code(style, Bend::Right(1));
+    let left = line_code(style, Bend::Left(1));
     three(table, NEXT, 3, 0, 2);
-    three(table, GAP, 0, 3, 3);
-    three(table, YS, 0, 0, 2);
-    three(table, DLS, 0, 1, 0);
-    three(table, DRS, 1, 0, 0);
+    three(table, GAP, 0, x, x);
+    three(table, YS, 0, 0, y);
+    three(table, DLS, 0, ports, 0);
+    three(table, DRS, ports, 0, 0);
     three(table, WORDS, a, b, c);
     three(table, LATER, 2, 3, 3);
-    three(table, BENDS, NO_PORT, FIRST_RIGHT, FIRST_LEFT);
+    three(table, BENDS, NO_PORT, right, left);
     Counts {
+        style,
         n,
         s,
         k: 3,

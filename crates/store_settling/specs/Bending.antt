@@ -4,15 +4,18 @@ use mathlib.Core.Path.{_≡_, refl, ap}
 use mathlib.Core.List.{List}
 use native.Mathlib.Omega.{arith}
 use lib.ListN.{length, take}
+use Rattle.rules.specs.declared.Style.{Style}
+use Rattle.rules.specs.declared.Style.the-variants.{OneBend, Straight}
 use Rattle.rules.specs.declared.Bend.{Bend}
-use Rattle.rules.specs.declared.Bend.the-variants.{Left, Right, Middle, Straight}
+use Rattle.rules.specs.declared.Bend.the-variants.{Left, Right, Middle, NoBend}
 use Rattle.rules.specs.Points.{Drawing, xOf, yOf, dlOf, drOf, hOf, lineAt}
 use Rattle.rules.specs.Ports.{bendOf}
 use Rattle.net.specs.Side.{rt, lf}
+use Rattle.net.specs.Net.{flat}
 use Rattle.net.specs.Frame.{point-in}
 use Rattle.net.specs.Ports.{aside-of}
 use Rattle.promise.specs.Nets.{bendKind}
-use Rattle.promise.specs.Sound.{Sound}
+use Rattle.promise.specs.Sound.{Sound, Bent, bent, unbent}
 use Rattle.store_links.specs.declared.Counts.{Counts}
 use Rattle.rules.specs.Lengths.{first-at}
 use Rattle.store_links.specs.Arrays.{Arrays, Stores, atPoint}
@@ -50,19 +53,26 @@ module _ {d : Drawing} {xs : List ℕ} {a : Arrays} (s : Shows d xs a) where
         h = first-at (a .hs) (d .hs) (d .k) (pred p) (s .h) below;
       }
 
-  bend-by : (later earlier : ℕ) → Seen later → Seen earlier → Seen 1 → (b : Bend) → bendIn xs a later earlier b ≡ bendOf d later earlier b
-  bend-by later earlier v u o (Left j) = rw (u .x, u .y, u .dl)
-  bend-by later earlier v u o (Right j) = rw (u .x, u .y, u .dr)
-  bend-by later earlier v u o (Middle i) = rw (v .x, v .y, v .h)
-  bend-by later earlier v u o Straight = rw (o .x, o .y)
+  bend-by : (later earlier : ℕ) → Seen later → Seen earlier → (b : Bend) → bendIn xs a later earlier b ≡ bendOf d later earlier b
+  bend-by later earlier v u (Left j) = rw (u .x, u .y, u .dl)
+  bend-by later earlier v u (Right j) = rw (u .x, u .y, u .dr)
+  bend-by later earlier v u (Middle i) = rw (v .x, v .y, v .h)
+  bend-by later earlier v u NoBend = rw (u .x, u .y)
 
   -- So the bend read from the lists is the drawing's.
   pub bend-right : (later earlier : ℕ) → 0 < later → later ≤ d .k → 0 < earlier → earlier ≤ d .k → (b : Bend) →
       bendIn xs a later earlier b ≡ bendOf d later earlier b
-  bend-right later earlier l u c e = bend-by later earlier (seen later l u) (seen earlier c e) (seen 1 (omega arith) (omega arith))
+  bend-right later earlier l u c e = bend-by later earlier (seen later l u) (seen earlier c e)
 
-  module _ (sound : Sound d) (small : d .k ≤ 1024) (e : ℕ) (el : e < length (d .lines)) where
-    -- The later point lies in the frame, which is small.
+  -- A line without a port needs no room for one.
+  flat-fits : (later earlier : ℕ) (b : Bend) → bendKind b ≡ flat → PortFits xs a later earlier b
+  flat-fits later earlier (Left j) q = absurd (let z : _≡_ {A = ℕ} 0 1 = cc in omega arith)
+  flat-fits later earlier (Right j) q = absurd (let z : _≡_ {A = ℕ} 0 1 = cc in omega arith)
+  flat-fits later earlier (Middle i) q = absurd (let z : _≡_ {A = ℕ} 0 1 = cc in omega arith)
+  flat-fits later earlier NoBend q = tt
+
+  module _ (sound : Bent d) (small : d .k ≤ 1024) (e : ℕ) (el : e < length (d .lines)) where
+    -- In a one-bend drawing the later point lies in the frame, which is small.
     in-frame : xOf d (lineAt d e .later) + yOf d (lineAt d e .later) < 5120
     in-frame = omega (arith, point-in (sound .inv) (sound .border) (pred (lineAt d e .later)) (sound .inv .core .lines .ends e el .1) .b, sound .border .width)
 
@@ -80,18 +90,24 @@ module _ {d : Drawing} {xs : List ℕ} {a : Arrays} (s : Shows d xs a) where
     fits-by (Middle i) q v u =
         let t = sound .inv .slopes .reach i e el (ap bendKind q) in
         omega (arith, in-frame, sound .inv .core .points .frame (pred (lineAt d e .later)) (sound .inv .core .lines .ends e el .1))
-    fits-by Straight q v u = tt
+    fits-by NoBend q v u = tt
+
+  module _ (sound : Sound d) (small : d .k ≤ 1024) (e : ℕ) (el : e < length (d .lines)) where
+    -- A straight line has no port.
+    fits-of : (τ : Style) → d .style ≡ τ → Seen (lineAt d e .later) → Seen (lineAt d e .earlier) → PortFits xs a (lineAt d e .later) (lineAt d e .earlier) (lineAt d e .bend)
+    fits-of OneBend b v u = fits-by (bent sound b) small e el (lineAt d e .bend) refl v u
+    fits-of Straight b v u = flat-fits (lineAt d e .later) (lineAt d e .earlier) (lineAt d e .bend) (unbent sound b .core .lines .fits e el .0)
 
     -- The bend of a line of a sound drawing can be found.
     pub bendable-of : length xs ≡ 1024 → Bendable xs a (lineAt d e .later) (lineAt d e .earlier) (lineAt d e .bend)
     bendable-of long =
         let some = sound .ended .ends e el in
-        let ends : (pred (lineAt d e .earlier) < d .k) × (pred (lineAt d e .later) < d .k) = sound .inv .core .lines .ends e el in
+        let ends : (pred (lineAt d e .earlier) < d .k) × (pred (lineAt d e .later) < d .k) = sound .core .lines .ends e el in
         let v : lineAt d e .later ≤ d .k = omega (arith, ends .1, some .1) in
         let u : lineAt d e .earlier ≤ d .k = omega (arith, ends .0, some .0) in
         record {
           long = long;
           later-in = (some .1, omega arith);
           earlier-in = (some .0, omega arith);
-          fits = fits-by (lineAt d e .bend) refl (seen (lineAt d e .later) (some .1) v) (seen (lineAt d e .earlier) (some .0) u);
+          fits = fits-of (d .style) refl (seen (lineAt d e .later) (some .1) v) (seen (lineAt d e .earlier) (some .0) u);
         }

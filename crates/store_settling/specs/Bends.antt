@@ -1,29 +1,29 @@
 -- Where a line bends, read from the arrays.
 use Prim.Native.Nat.{ℕ, pred, _+_, _-_, _<_, _≤_}
-use mathlib.Core.Path.{_≡_, refl, ap}
+use mathlib.Core.Path.{_≡_, ap}
 use mathlib.Core.List.{List}
 use native.Mathlib.Omega.{arith}
 use lib.ListN.{length, getD}
 use Rattle.rules.specs.declared.Place.{Place}
 use Rattle.rules.specs.declared.Bend.{Bend}
-use Rattle.rules.specs.declared.Bend.the-variants.{Left, Right, Middle, Straight}
+use Rattle.rules.specs.declared.Bend.the-variants.{Left, Right, Middle, NoBend}
 use Rattle.rules.specs.Points.{at}
 use Rattle.store_links.specs.Arrays.{Arrays, atPoint}
 use Rattle.store_tables.specs.Tables.{from, region, arraysIn, point-read, ysR, dlsR, drsR, hsR}
 
--- `bendOf` of the rules, over lists: a left or right port of the earlier point, a middle port of the later one, or the place of point 1
+-- `bendOf` of the rules, over lists: a left or right port of the earlier point, a middle port of the later one, or the earlier point itself
 abbrev pub bendIn : List ℕ → Arrays → ℕ → ℕ → Bend → Place
 bendIn xs a later earlier (Left j) = at (atPoint xs earlier - (atPoint (a .dls) earlier + 1)) (atPoint (a .ys) earlier + j)
 bendIn xs a later earlier (Right j) = at (atPoint xs earlier + atPoint (a .drs) earlier + 1) (atPoint (a .ys) earlier + j)
 bendIn xs a later earlier (Middle i) = at (atPoint xs later + i - atPoint (a .hs) later) (atPoint (a .ys) later - atPoint (a .hs) later)
-bendIn xs a later earlier Straight = at (atPoint xs 1) (atPoint (a .ys) 1)
+bendIn xs a later earlier NoBend = at (atPoint xs earlier) (atPoint (a .ys) earlier)
 
 -- the port is one of those that its owner has, no port lies left of 0 or below it, and every sum fits 16 bits
 abbrev pub PortFits : List ℕ → Arrays → ℕ → ℕ → Bend → Type 0
 PortFits xs a later earlier (Left j) = (j ≤ atPoint (a .dls) earlier) × (atPoint (a .dls) earlier + 1 ≤ atPoint xs earlier) × (atPoint (a .ys) earlier + j < 65536)
 PortFits xs a later earlier (Right j) = (j ≤ atPoint (a .drs) earlier) × (atPoint xs earlier + atPoint (a .drs) earlier + 1 < 65536) × (atPoint (a .ys) earlier + j < 65536)
 PortFits xs a later earlier (Middle i) = (atPoint xs later + i < 65536) × (atPoint (a .hs) later ≤ atPoint xs later + i) × (atPoint (a .hs) later ≤ atPoint (a .ys) later)
-PortFits xs a later earlier Straight = Unit {0}
+PortFits xs a later earlier NoBend = Unit {0}
 
 -- what finding a bend asks
 pub record Bendable (xs : List ℕ) (a : Arrays) (later earlier : ℕ) (b : Bend) : Type 0 where
@@ -75,6 +75,6 @@ module _ {xs : List ℕ} (t : List ℕ) {later earlier : ℕ} {b : Bend} (h : Be
     unfolding arraysIn
     middle-in = rw (e, of-later hsR, of-later ysR, x-later)
 
-  pub straight-in : b ≡ Straight → at (getD xs 0 0) (getD t (from ysR) 0) ≡ bendIn xs (arraysIn t) later earlier b
+  pub straight-in : b ≡ NoBend → at (getD xs (earlier - 1) 0) (getD t (from ysR + (earlier - 1)) 0) ≡ bendIn xs (arraysIn t) later earlier b
   unfolding arraysIn
-  straight-in e = rw (e, point-read ysR t 0 1 refl (omega arith))
+  straight-in e = rw (e, of-earlier ysR, x-earlier)

@@ -24,5 +24,5 @@ module _ {d : Drawing} (h : Standing d) (e : ℕ) (el : e < length (d .lines)) w
   pub ends : (0 < lineAt d e .later) × (lineAt d e .later ≤ d .k) × (0 < lineAt d e .earlier) × (lineAt d e .earlier ≤ d .k)
   ends =
       let some = h .sound .ended .ends e el in
-      let most : (pred (lineAt d e .earlier) < d .k) × (pred (lineAt d e .later) < d .k) = h .sound .inv .core .lines .ends e el in
+      let most : (pred (lineAt d e .earlier) < d .k) × (pred (lineAt d e .later) < d .k) = h .sound .core .lines .ends e el in
       (some .1, omega (arith, most .1), some .0, omega (arith, most .0))

@@ -6,7 +6,7 @@ use native.Mathlib.Omega.{arith}
 use lib.ListN.{length, take}
 use lib.Seq.{ext-getD}
 use Rattle.rules.specs.declared.Kind.the-variants.{Guide}
-use Rattle.rules.specs.declared.Bend.the-variants.{Straight}
+use Rattle.rules.specs.declared.Bend.the-variants.{NoBend}
 use Rattle.rules.specs.Points.{Drawing, w, m}
 use Rattle.promise.specs.Sound.{Sound}
 use Rattle.promise.specs.Bounds.{Standing}
@@ -20,7 +20,7 @@ use Rattle.store_settling.specs.Lines.{line-is}
 -- the boundary begins with point 1
 first-is : {d : Drawing} → Sound d → w d 0 ≡ 1
 first-is {d} s =
-    let c = s .inv .core .corners in
+    let c = s .core .corners in
     let f : pred (w d 0) ≡ 0 = c .first in
     let z : 1 < m d = c .size in
     omega (arith, s .rooted .low 0 (omega arith) .0)
@@ -61,13 +61,14 @@ module _ {p q : Drawing} {a : Arrays} {c : Counts} (sp : Standing p) (sq : Stand
   -- the same lines
   same-all : p .lines ≡ q .lines
   same-all =
-      ext-getD (record { later = 0; earlier = 0; bend = Straight; kind = Guide }) (p .lines) (q .lines) same-lines
+      ext-getD (record { later = 0; earlier = 0; bend = NoBend; kind = Guide }) (p .lines) (q .lines) same-lines
       (λ e el. sym (line-is sp e el hp) ∙ line-is sq e (omega (arith, same-lines)) hq)
 
   -- THEY ARE ONE.
   pub stored-one : p ≡ q
   stored-one = λ i.
       record {
+        style = (sym (hp .style) ∙ hq .style) i;
         n = (sym (hp .n) ∙ hq .n) i;
         s = (sym (hp .s) ∙ hq .s) i;
         k = same-k i;

@@ -10,8 +10,9 @@ use lib.Seq.{getD-set-same, getD-set-other, getD-take, ext-getD, length-take-le}
 use Rattle.rules.specs.Basics.{indexOf}
 use Rattle.rules.specs.Points.{Drawing, xOf, w, m}
 use Rattle.rules.specs.Moving.{column}
-use Rattle.net.specs.Frame.{point-in}
+use Rattle.net.specs.Side.{inset-most}
 use Rattle.promise.specs.Sound.{Sound}
+use Rattle.promise.specs.Frames.{wide, framed}
 use Rattle.promise.specs.Climb.{climb-root}
 use Rattle.promise.specs.Index.{index-at, index-le}
 use Rattle.promise.specs.Columns.{w-suc, w-placed, index-is}
@@ -26,7 +27,7 @@ use Rattle.store_settling.specs.Few.{few}
 module _ {d : Drawing} (s : Sound d) where
   -- Every x fits 16 bits.
   x-fits : (p : ℕ) → p < d .k → d .k ≤ 1024 → getD (d .xs) p 0 < 65536
-  x-fits p pk small = omega (arith, point-in (s .inv) (s .border) p pk .b, s .border .width)
+  x-fits p pk small = omega (arith, framed s p pk .1, wide s, inset-most (d .style))
 
   -- Boundary points are different.
   differ : (i j : ℕ) → i < j → j < m d → pred (w d i) ≢ pred (w d j)
@@ -40,7 +41,7 @@ module _ {d : Drawing} (s : Sound d) where
 
   -- The column of a placed point is one of theirs.
   column-low : (p : ℕ) → p < d .k → column d (suc p) < m d
-  column-low p pk = s .inv .core .points .cols p pk
+  column-low p pk = s .core .points .cols p pk
 
   -- A point that nobody owns stands on the boundary.
   stands : (p : ℕ) → p < d .k → getD (d .owners) p 0 ≡ 0 → (i : ℕ) × (i < m d) × (w d i ≡ suc p)
@@ -60,7 +61,7 @@ module _ {d : Drawing} (s : Sound d) where
   -- Its owner is later, and placed.
   owner-later : (p o : ℕ) → p < d .k → getD (d .owners) p 0 ≡ suc o → (p < o) × (o < d .k)
   owner-later p o pk e =
-      let t = s .inv .core .owners .owned p pk (off-boundary p o pk e) in
+      let t = s .core .owners .owned p pk (off-boundary p o pk e) in
       let n : pred (getD (d .owners) p 0) ≡ o = ap (λ (v : ℕ). pred v) e in
       omega arith
 
@@ -96,7 +97,7 @@ module _ {d : Drawing} (s : Sound d) {a : Arrays} {k : ℕ} (h : Placed d a k) (
   -- Behind the last boundary point, which is point 2, it ends.
   ended : (steps i p at : ℕ) (x : List ℕ) → suc i ≡ m d → p ≡ atPoint (a .next) (w d i) → Upto i x → Goes steps p at x
   ended steps i p at x im ep u =
-      let l : pred (w d i) ≡ 1 = s .inv .core .corners .last i im in
+      let l : pred (w d i) ≡ 1 = s .core .corners .last i im in
       let z : w d i ≡ 2 = omega arith in
       let e : p ≡ 0 = ep ∙ ap (λ (v : ℕ). atPoint (a .next) v) z ∙ h .last in
       let j : m d - 1 ≡ i = omega arith in
@@ -129,7 +130,7 @@ module _ {d : Drawing} (s : Sound d) {a : Arrays} {k : ℕ} (h : Placed d a k) (
   -- The first pass, from point 1 at 0 on.
   pub walk-right : (x : List ℕ) → length x ≡ 1024 → Goes k (getD (a .next) 0 0) 0 (set x 0 0)
   walk-right x long =
-      let c = s .inv .core .corners in
+      let c = s .core .corners in
       let one : pred (w d 0) ≡ 0 = c .first in
       let origin : xOf d (w d 0) ≡ 0 = ap (λ (p : ℕ). getD (d .xs) p 0) one ∙ c .origin .0 in
       goes k 0 (getD (a .next) 0 0) 0 (set x 0 0) (omega (arith, c .size)) (omega (arith, m-most s, h .k)) (ap (λ (p : ℕ). getD (a .next) p 0) (sym one)) (sym origin) (first one origin)

@@ -89,9 +89,9 @@ pub fn bend_of(x: &[u16; POINTS], table: &[u16], later: usize, earlier: usize, b
         Bend::Left(j) => store_lines::left_port(x[q], table[YS + q], table[DLS + q], j),
         Bend::Right(j) => store_lines::right_port(x[q], table[YS + q], table[DRS + q], j),
         Bend::Middle(i) => store_lines::middle_port(x[p], table[YS + p], table[HS + p], i),
-        Bend::Straight => Place {
-            x: x[0],
-            y: table[YS],
+        Bend::NoBend => Place {
+            x: x[q],
+            y: table[YS + q],
         },
     }
 }

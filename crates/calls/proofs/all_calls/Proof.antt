@@ -9,7 +9,7 @@ use Rattle.calls.proofs.all_calls.Statement.{statement}
 use Rattle.calls.proofs.all_calls.Tie as tie
 
 abbrev Inv-loop : tie.InvT-loop
-Inv-loop table₀ calls answers₀ counts₀ told₀ at₀ table answers counts told at = Going (counts₀ .n) calls answers₀ (arraysIn table) counts at told answers
+Inv-loop table₀ calls answers₀ counts₀ told₀ at₀ table answers counts told at = Going (counts₀ .style) (counts₀ .n) calls answers₀ (arraysIn table) counts at told answers
 
 abbrev μ-loop : tie.MeasureT-loop
 μ-loop table₀ calls answers₀ counts₀ told₀ at₀ table answers counts told at = length calls - at

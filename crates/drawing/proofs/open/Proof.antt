@@ -12,8 +12,8 @@ no-drawing-requires c κs = search needs
 
 returns : tie.Need-returns
 returns c =
-    let n = c .before .before .args .n in
-    ⊎-elim (λ w. refuses-few n (c .no-drawing .ensures) (w .taken)) (λ w. refuses-many n (c .no-drawing .ensures) (w .0 .left) (omega (arith, ltb-true)))
+    let a = c .before .before .args in
+    ⊎-elim (λ w. refuses-few (a .style) (a .n) (c .no-drawing .ensures) (w .taken)) (λ w. refuses-many (a .style) (a .n) (c .no-drawing .ensures) (w .0 .left) (omega (arith, ltb-true)))
     (c .before .if1 .came)
 
 as-opened-requires : tie.Need-as-opened-requires
@@ -21,8 +21,8 @@ as-opened-requires c κs = search needs
 
 returns-2 : tie.Need-returns-2
 returns-2 c =
-    let n = c .before .before .before .args .n in
-    opens n (c .before .before .if1 .left) (omega (arith, ltb-false)) (c .as-opened .ensures)
+    let a = c .before .before .before .args in
+    opens (a .style) (a .n) (c .before .before .if1 .left) (omega (arith, ltb-false)) (c .as-opened .ensures)
 
 pub open-spec : {M : Type 1} → statement M
 open-spec = tie.close (tie.spec no-drawing-requires returns as-opened-requires returns-2)

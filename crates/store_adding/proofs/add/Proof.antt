@@ -8,7 +8,7 @@ use Rattle.rules.specs.Results.{accepted}
 use Rattle.store_links.specs.declared.Counts.{Counts}
 use Rattle.store_links.specs.Arrays.{Arrays}
 use Rattle.store_tables.specs.Tables.{arraysIn}
-use Rattle.store_adding.specs.Passing.{tests, Passing, passing, all-within, most, runs, small, storable, refused-early, refused-late, taken}
+use Rattle.store_adding.specs.Passing.{tests, Passing, passing, runs, small, storable, refused-early, refused-late, accepts}
 use borrow.Author.Needs.{needs}
 use Rattle.store_adding.proofs.add.Statement.{statement}
 use Rattle.store_adding.proofs.add.Tie as tie
@@ -30,8 +30,8 @@ start d = d .before .before .before .before .before .before .before .before
 abbrev judged : tie.After-spot-over → tie.After-enum-told
 judged o = o .before .before
 
-abbrev spotted : tie.After-ports-of → tie.After-spot-over
-spotted r = r .before .before .before .before
+abbrev spotted : tie.After-ports-over → tie.After-spot-over
+spotted r = r .before .before
 
 all-good : (d : tie.After-enum-told) → tests (arrays (start d)) (numbers (start d)) (entries (start d)) ≡ good tt
 unfolding arraysIn
@@ -79,30 +79,11 @@ returns c =
 spot-over-requires : tie.Need-spot-over-requires
 spot-over-requires c κs = (runs (pass (c .before)), start (c .before) .pre .1)
 
-sub-ports-of : tie.Need-sub-ports-of
-sub-ports-of c = search needs
-
-part-ports-of-start : tie.Need-part-ports-of-start
-part-ports-of-start c = search needs
-
-part-ports-of-end : tie.Need-part-ports-of-end
-part-ports-of-end c = search needs
-
-sub-ports-of-2 : tie.Need-sub-ports-of-2
-sub-ports-of-2 c = search needs
-
-part-ports-of-start-2 : tie.Need-part-ports-of-start-2
-part-ports-of-start-2 c = search needs
-
-part-ports-of-end-2 : tie.Need-part-ports-of-end-2
-part-ports-of-end-2 c = search needs
-
-ports-of-requires : tie.Need-ports-of-requires
-unfolding arraysIn
-ports-of-requires c κs =
-    let o = c .before .before .before in
+ports-over-requires : tie.Need-ports-over-requires
+ports-over-requires c κs =
+    let o = c .before in
     let p = pass (judged o) in
-    (small p _ (o .spot-over .ensures), p .sized .gap, p .sized .ys, p .some, most p, all-within p)
+    (runs p, small p _ (o .spot-over .ensures), start (judged o) .pre .1)
 
 enum-known-ports : tie.Need-enum-known-ports
 enum-known-ports c = search needs
@@ -119,7 +100,7 @@ returns-2 c =
     let r = c .before .before in
     let o = spotted r in
     let z = start (judged o) in
-    refused-late (arrays z) (numbers z) (entries z) _ (all-good (judged o)) (o .spot-over .ensures) _ (r .ports-of .ensures) (c .enum-told3 .given .1)
+    refused-late (arrays z) (numbers z) (entries z) _ (all-good (judged o)) (o .spot-over .ensures) _ (r .ports-over .ensures) (c .enum-told3 .given .1)
 
 store-requires : tie.Need-store-requires
 store-requires c κs =
@@ -143,7 +124,7 @@ returns-3 c =
     let r = f .before .before in
     let o = spotted r in
     let z = start (judged o) in
-    taken (arrays z) (numbers z) (entries z) _ (all-good (judged o)) (o .spot-over .ensures) _ (r .ports-of .ensures) _ (f .ports .given .1) _ (t .store .ensures) _ (c .counts-with .ensures)
+    accepts (arrays z) (numbers z) (entries z) _ (all-good (judged o)) (o .spot-over .ensures) _ (r .ports-over .ensures) _ (f .ports .given .1) _ (t .store .ensures) _ (c .counts-with .ensures)
 
 pub add-spec : {M : Type 1} → statement M
 add-spec =
@@ -161,13 +142,7 @@ add-spec =
     same-length
     returns
     spot-over-requires
-    sub-ports-of
-    part-ports-of-start
-    part-ports-of-end
-    sub-ports-of-2
-    part-ports-of-start-2
-    part-ports-of-end-2
-    ports-of-requires
+    ports-over-requires
     enum-known-ports
     enum-told-3
     same-length-2

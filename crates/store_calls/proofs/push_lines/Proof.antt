@@ -4,6 +4,7 @@ use mathlib.Core.Path.{_≡_, refl, ap, _∙_}
 use lib.ListN.{length, length-set}
 use native.Mathlib.Numerals.{add-one}
 use native.Mathlib.Omega.{arith}
+use Rattle.rules.specs.Styles.{bent}
 use Rattle.store_links.specs.Codes.{bendCode}
 use Rattle.store_links.specs.Storing.{codeOf, filled}
 use Rattle.store_tables.specs.Tables.{arraysIn, Keeps}
@@ -14,10 +15,10 @@ use Rattle.store_calls.proofs.push_lines.Statement.{statement}
 use Rattle.store_calls.proofs.push_lines.Tie as tie
 
 abbrev Inv-loop : tie.InvT-loop
-Inv-loop e table₀ rights lefts from at new last i₀ table i = (i ≤ length e) × (length table ≡ length table₀) × Keeps table (lined (arraysIn table₀) e at new (codeOf rights lefts last from) i)
+Inv-loop e table₀ rights lefts from style at new last i₀ table i = (i ≤ length e) × (length table ≡ length table₀) × Keeps table (lined (arraysIn table₀) e at new (codeOf style rights lefts last from) i)
 
 abbrev μ-loop : tie.MeasureT-loop
-μ-loop e table₀ rights lefts from at new last i₀ table i = length e - i
+μ-loop e table₀ rights lefts from style at new last i₀ table i = length e - i
 
 add-narrow : tie.Need-add-narrow Inv-loop μ-loop
 add-narrow c = search needs
@@ -62,8 +63,8 @@ slice-write-table-2 c = simp length-set (omega arith)
 new-bend-requires : tie.Need-new-bend-requires Inv-loop μ-loop
 new-bend-requires c κs = omega (arith, c .before .before .before .before .before .before .before .pre .0 .lines)
 
-bend-code-requires : tie.Need-bend-code-requires Inv-loop μ-loop
-bend-code-requires c κs =
+line-code-requires : tie.Need-line-code-requires Inv-loop μ-loop
+line-code-requires c κs =
     let b = c .before .before .before in
     let z = b .before .before .before .before .before in
     rw (c .new-bend .ensures) (code-fits (z .args .rights) (z .args .lefts) _ (z .args .from) (b .loop .i) (z .pre .0 .right-code) (z .pre .0 .left-code) (omega (arith, z .pre .0 .lines)))
@@ -90,7 +91,7 @@ loop-again c =
     let z = b .before .before .before .before .before in (
       omega arith,
       simp length-set (l .inv .1),
-      line-more (l .table) (arraysIn (z .args .table .now)) (z .args .e .now) (z .args .c .lines) (b .before .narrow .result) (l .i) _ _ (l .inv .2) (omega (arith, z .pre .0 .lines)) (c .bend-code .ensures ∙ ap bendCode (c .before .new-bend .ensures)),
+      line-more (l .table) (arraysIn (z .args .table .now)) (z .args .e .now) (z .args .c .lines) (b .before .narrow .result) (l .i) _ _ (l .inv .2) (omega (arith, z .pre .0 .lines)) (c .line-code .ensures ∙ ap (λ b. bendCode (bent (z .args .c .style) b)) (c .before .new-bend .ensures)),
     )
 
 same-length : tie.Need-same-length Inv-loop μ-loop
@@ -124,7 +125,7 @@ push-lines-spec =
     mul-table-3
     slice-write-table-2
     new-bend-requires
-    bend-code-requires
+    line-code-requires
     add-table-3
     mul-table-4
     slice-write-table-3

@@ -1,8 +1,9 @@
 -- `store_points::store` meets its contract: each helper makes its part of `withPoint`.
-use Prim.Native.Nat.{ℕ, suc, _+_}
+use Prim.Native.Nat.{ℕ, _+_}
 use mathlib.Core.Path.{_≡_, ap, _∙_}
 use mathlib.Core.List.{List}
 use native.Mathlib.Omega.{arith}
+use Rattle.rules.specs.Styles.{taken}
 use Rattle.store_links.specs.Arrays.{Arrays, atPoint}
 use Rattle.store_links.specs.Placing.{innerCount}
 use Rattle.store_tables.specs.Parts.{patched}
@@ -38,7 +39,7 @@ abbrev righting : tie.After-table3 → tie.After-link
 righting g = g .before .before .before .before .before
 
 abbrev righted : tie.After-point-of2 → List ℕ → List ℕ
-righted d l = grown l (start d .args .c .k + 1) (d .before .before .point-of .result)
+righted d l = grown (start d .args .c .style) l (start d .args .c .k + 1) (d .before .before .point-of .result)
 
 kept-right : (g : tie.After-table3) → let l = righting g in Keeps (patched (from drsR) (size drsR) (l .link .last .0) (g .before .grow-ports .last .0)) (changed drsR (righted (linking l)) (tied (linking l) (over (linking l))))
 kept-right g = arrays-lent drsR (righted (linking (righting g))) (kept (righting g)) (omega arith) (g .table3 .given .0) (g .before .grow-ports .ensures .0)
@@ -49,24 +50,24 @@ lefting g = g .before .before .before .before
 kept-left : (g : tie.After-table4) →
     let r = lefting g in
     let d = linking (righting r) in
-    Keeps (patched (from dlsR) (size dlsR) (patched (from drsR) (size drsR) (righting r .link .last .0) (r .before .grow-ports .last .0)) (g .before .grow-ports2 .last .0)) (ported (tied d (over d)) (start d .args .c .k + 1) (d .before .before .point-of .result) (d .point-of2 .result))
+    Keeps (patched (from dlsR) (size dlsR) (patched (from drsR) (size drsR) (righting r .link .last .0) (r .before .grow-ports .last .0)) (g .before .grow-ports2 .last .0)) (ported (start d .args .c .style) (tied d (over d)) (start d .args .c .k + 1) (d .before .before .point-of .result) (d .point-of2 .result))
 kept-left g =
     let d = linking (righting (lefting g)) in
-    arrays-lent dlsR (λ l. grown l (start d .args .c .k + 1) (d .point-of2 .result)) (kept-right (lefting g)) (omega arith) (g .table4 .given .0) (g .before .grow-ports2 .ensures .0)
+    arrays-lent dlsR (λ l. grown (start d .args .c .style) l (start d .args .c .k + 1) (d .point-of2 .result)) (kept-right (lefting g)) (omega arith) (g .table4 .given .0) (g .before .grow-ports2 .ensures .0)
 
 long : (g : tie.After-table4) → Full (patched (from dlsR) (size dlsR) (patched (from drsR) (size drsR) (righting (lefting g) .link .last .0) (lefting g .before .grow-ports .last .0)) (g .before .grow-ports2 .last .0))
 long g = omega arith
 
 -- the indexes of the new ports
-rights : (g : tie.After-table3) → let d = linking (righting g) in g .before .grow-ports .result ≡ suc (atPoint (arraysIn (start d .args .table .now) .drs) (d .before .before .point-of .result))
+rights : (g : tie.After-table3) → let d = linking (righting g) in g .before .grow-ports .result ≡ taken (start d .args .c .style) (atPoint (arraysIn (start d .args .table .now) .drs) (d .before .before .point-of .result))
 unfolding arraysIn
-rights g = g .before .grow-ports .ensures .1 ∙ ap (λ a. suc (atPoint (a .drs) (linking (righting g) .before .before .point-of .result))) (kept (righting g) .is)
+rights g = g .before .grow-ports .ensures .1 ∙ ap (λ a. taken (start (linking (righting g)) .args .c .style) (atPoint (a .drs) (linking (righting g) .before .before .point-of .result))) (kept (righting g) .is)
 
-lefts : (g : tie.After-table4) → let r = lefting g in let d = linking (righting r) in g .before .grow-ports2 .result ≡ suc (atPoint (arraysIn (start d .args .table .now) .dls) (d .point-of2 .result))
+lefts : (g : tie.After-table4) → let r = lefting g in let d = linking (righting r) in g .before .grow-ports2 .result ≡ taken (start d .args .c .style) (atPoint (arraysIn (start d .args .table .now) .dls) (d .point-of2 .result))
 unfolding arraysIn
 lefts g =
     let r = lefting g in
-    g .before .grow-ports2 .ensures .1 ∙ ap (λ a. suc (atPoint (a .dls) (linking (righting r) .point-of2 .result))) (kept-right r .is)
+    g .before .grow-ports2 .ensures .1 ∙ ap (λ a. taken (start (linking (righting r)) .args .c .style) (atPoint (a .dls) (linking (righting r) .point-of2 .result))) (kept-right r .is)
 
 add-v : tie.Need-add-v
 add-v c = search needs

@@ -9,14 +9,14 @@ use Rattle.store_placing.proofs.spot_of.Tie as tie
 half-most : (t l r : ℕ) → r ≤ t + l → (t + r - l) / 2 ≤ t
 half-most t l r h = omega arith
 
-step-of-requires : tie.Need-step-of-requires
-step-of-requires c κs = search needs
+amount-requires : tie.Need-amount-requires
+amount-requires c κs = search needs
 
 add-widened : tie.Need-add-widened
 add-widened c = search needs
 
-step-of-requires-2 : tie.Need-step-of-requires-2
-step-of-requires-2 c κs = search needs
+amount-requires-2 : tie.Need-amount-requires-2
+amount-requires-2 c κs = search needs
 
 add-widened-2 : tie.Need-add-widened-2
 add-widened-2 c = search needs
@@ -42,34 +42,40 @@ add-dx c = search needs
 sub-dx : tie.Need-sub-dx
 sub-dx c = search needs
 
-add-t14 : tie.Need-add-t14
-add-t14 c = search needs
+inset-requires : tie.Need-inset-requires
+inset-requires c κs = search needs
 
-add-t15 : tie.Need-add-t15
-add-t15 c = search needs
+add-y : tie.Need-add-y
+add-y c = search needs
 
-sub-t13 : tie.Need-sub-t13
-sub-t13 c = search needs
+add-y-2 : tie.Need-add-y-2
+add-y-2 c = search needs
+
+mul-y : tie.Need-mul-y
+mul-y c = search needs
+
+sub-y : tie.Need-sub-y
+sub-y c = search needs
 
 row-height-requires : tie.Need-row-height-requires
 row-height-requires c κs = search needs
 
-sub-t18 : tie.Need-sub-t18
-sub-t18 c = half-most _ _ _ (omega arith)
+sub-rest : tie.Need-sub-rest
+sub-rest c = half-most _ _ _ (omega arith)
 
 returns : tie.Need-returns
 unfolding spotOf
 returns c =
     let b = c .before in
-    rw (c .row-height .ensures, b .broad2 .ensures .0, b .before .broad .ensures .0, b .before .before .step-of2 .ensures .0, b .before .before .before .step-of .ensures .0)
+    rw (c .row-height .ensures, b .inset .ensures .0, b .before .broad2 .ensures .0, b .before .before .broad .ensures .0, b .before .before .before .amount2 .ensures .0, b .before .before .before .before .amount .ensures .0)
 
 pub spot-of-spec : {M : Type 1} → statement M
 spot-of-spec =
     tie.close
     (tie.spec
-    step-of-requires
+    amount-requires
     add-widened
-    step-of-requires-2
+    amount-requires-2
     add-widened-2
     broad-requires
     broad-requires-2
@@ -78,9 +84,11 @@ spot-of-spec =
     add-total-3
     add-dx
     sub-dx
-    add-t14
-    add-t15
-    sub-t13
+    inset-requires
+    add-y
+    add-y-2
+    mul-y
+    sub-y
     row-height-requires
-    sub-t18
+    sub-rest
     returns)

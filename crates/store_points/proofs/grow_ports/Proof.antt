@@ -1,9 +1,10 @@
 -- `store_points::grow_ports` meets its contract: the count is read before anything is stored.
 use Prim.Native.Nat.{_-_}
-use mathlib.Core.Path.{_≡_}
-use native.Mathlib.Numerals.{add-one, sub-one}
+use mathlib.Core.Path.{_≡_, ap, _∙_}
+use native.Mathlib.Numerals.{sub-one}
 use native.Mathlib.Omega.{arith}
 use lib.ListN.{getD, length-set}
+use Rattle.rules.specs.Styles.{taken}
 use Rattle.store_links.specs.Arrays.{atPoint}
 use borrow.Author.Needs.{needs}
 use Rattle.store_points.proofs.grow_ports.Statement.{statement}
@@ -13,17 +14,17 @@ use Rattle.store_points.proofs.grow_ports.Tie as tie
 counted : (c : tie.Start) → getD (c .args .ports .now) (c .args .w - 1) 0 ≡ atPoint (c .args .ports .now) (c .args .w)
 counted c = rw sub-one
 
-sub-index : tie.Need-sub-index
-sub-index c = search needs
+sub-taken : tie.Need-sub-taken
+sub-taken c = search needs
 
-mul-index : tie.Need-mul-index
-mul-index c = search needs
+mul-taken : tie.Need-mul-taken
+mul-taken c = search needs
 
-slice-read-index : tie.Need-slice-read-index
-slice-read-index c = search needs
+slice-read-taken : tie.Need-slice-read-taken
+slice-read-taken c = search needs
 
-add-index : tie.Need-add-index
-add-index c = omega (arith, counted (c .before), c .before .pre .0 .room)
+taken-requires : tie.Need-taken-requires
+taken-requires c κs = omega (arith, counted (c .before .before), c .before .before .pre .0 .room)
 
 sub-ports : tie.Need-sub-ports
 sub-ports c = search needs
@@ -47,16 +48,19 @@ same-length : tie.Need-same-length
 same-length c = search needs
 
 returns : tie.Need-returns
-returns c = (rw (counted (c .before), sub-one, sub-one, add-one), rw (counted (c .before), add-one))
+returns c =
+    let z = c .before .before .before in
+    let index = c .taken .ensures ∙ ap (taken (z .args .style)) (counted z) in
+    (rw (index, sub-one, sub-one), index)
 
 pub grow-ports-spec : {M : Type 1} → statement M
 grow-ports-spec =
     tie.close
     (tie.spec
-    sub-index
-    mul-index
-    slice-read-index
-    add-index
+    sub-taken
+    mul-taken
+    slice-read-taken
+    taken-requires
     sub-ports
     mul-ports
     slice-write-ports

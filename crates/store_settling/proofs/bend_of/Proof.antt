@@ -103,11 +103,20 @@ middle-port-requires c κs = let f = c .before .before .before .before in middle
 enum-told : tie.Need-enum-told
 enum-told c = search needs
 
-element-copy-out-t50 : tie.Need-element-copy-out-t50
-element-copy-out-t50 c = search needs
+mul-t48 : tie.Need-mul-t48
+mul-t48 c = search needs
 
-shared-slice-read-t52 : tie.Need-shared-slice-read-t52
-shared-slice-read-t52 c = search needs
+element-copy-out-t51 : tie.Need-element-copy-out-t51
+element-copy-out-t51 c = search needs
+
+add-t52 : tie.Need-add-t52
+add-t52 c = search needs
+
+mul-t53 : tie.Need-mul-t53
+mul-t53 c = search needs
+
+shared-slice-read-t55 : tie.Need-shared-slice-read-t55
+shared-slice-read-t55 c = search needs
 
 returns : tie.Need-returns
 returns c = let f = c .before .before .before .before .before in rw (c .left-port .ensures) (left-in _ (f .before .before .before .pre .0) (f .b .given .0 .0) (f .b .given .1))
@@ -158,8 +167,11 @@ bend-of-spec =
     shared-slice-read-middle-port-2
     middle-port-requires
     enum-told
-    element-copy-out-t50
-    shared-slice-read-t52
+    mul-t48
+    element-copy-out-t51
+    add-t52
+    mul-t53
+    shared-slice-read-t55
     returns
     returns-2
     returns-3
