@@ -1,12 +1,16 @@
--- What a line's moves ask of a drawing: its scale is at most 8, and its points and bends lie on the grid.
+-- What a line's moves ask of a drawing: its scale is at most 8, and its points and bends lie on the grid. A line that is there is seen, with its bend where it has one.
 use Prim.Native.Nat.{ℕ, _<_, _≤_}
 use native.Mathlib.Omega.{arith}
-use mathlib.Core.Path.{_≡_, _∙_}
+use mathlib.Core.Path.{_≡_, refl, ap, _∙_}
 use lib.ListN.{length}
 use borrow.Author.Tests.{lt-ltb, le-leb}
+use Rattle.rules.specs.declared.Style.{Style}
+use Rattle.rules.specs.declared.Style.the-variants.{OneBend, Straight}
 use Rattle.rules.specs.declared.Line.{Line}
 use Rattle.rules.specs.declared.Place.{Place}
 use Rattle.rules.specs.declared.Refusal.{Refusal}
+use Rattle.rules.specs.Refusals.{good}
+use Rattle.rules.specs.Styles as Rules
 use Rattle.rules.specs.Points.{Drawing as Plan, placeOf, lineAt}
 use Rattle.rules.specs.Ports.{bendPlace}
 use Rattle.rules.specs.Lookups.{lookPoint, lookLine}
@@ -23,6 +27,23 @@ use Rattle.answers.specs.declared.PointSeen.the-variants as Point
 use Rattle.drawing.specs.declared.Drawing.{Drawing}
 use Rattle.drawing.specs.View.{Came}
 use Rattle.store_settling.specs.Lines.{ends}
+use Rattle.cutter.specs.Numbering.{noLine}
+
+-- the line that was seen, and where it bends; of a straight line another place stands for that
+abbrev pub lineIn : LineSeen → Line
+lineIn (Line.Bent l b) = l
+lineIn (Line.Straight l) = l
+lineIn (Line.Refused r p) = noLine
+
+abbrev pub bendIn : LineSeen → Place → Place
+bendIn (Line.Bent l b) other = b
+bendIn (Line.Straight l) other = other
+bendIn (Line.Refused r p) other = other
+
+-- the same by the style
+abbrev pub bendBy : Style → Place → Place → Place
+bendBy OneBend bend other = bend
+bendBy Straight bend other = other
 
 -- A drawing that came from calls or an order file has a scale from 1 to 8.
 pub scale : {d : Drawing} → Came d → (1 ≤ d .counts .s) × (d .counts .s ≤ 8)
@@ -50,11 +71,20 @@ module _ {q : Plan} {a : Arrays} {c : Counts} (h : Holds q a c) where
     el : e < length (q .lines)
     el = omega (arith, h .stores .lines)
 
-    pub bend-on-grid : OnGrid (bendPlace q (lineAt q e))
+    -- Its bend lies on the grid,
+    bend-on-grid : OnGrid (bendPlace q (lineAt q e))
     bend-on-grid =
         let m = bend-most q (h .standing) e el in
         let w = width-most q (h .standing) in
         record { across = omega arith; up = omega arith }
+
+    -- and so does what stands for it, where that place does.
+    pub stands-on-grid : (p : Place) → OnGrid p → OnGrid (bendBy (q .style) (bendPlace q (lineAt q e)) p)
+    stands-on-grid p h = go (q .style)
+      where
+        go : (τ : Style) → OnGrid (bendBy τ (bendPlace q (lineAt q e)) p)
+        go OneBend = bend-on-grid
+        go Straight = h
 
     -- Its ends are points.
     pub later-there : (1 ≤ lineAt q e .later) × (lineAt q e .later ≤ c .k)
@@ -63,13 +93,21 @@ module _ {q : Plan} {a : Arrays} {c : Counts} (h : Holds q a c) where
     pub earlier-there : (1 ≤ lineAt q e .earlier) × (lineAt q e .earlier ≤ c .k)
     earlier-there = let p = ends (h .standing) e el in (p .2, omega (arith, p .3, h .stores .k))
 
-    -- A line that is there is seen, with its bend.
-    module _ (r : LineSeen) (is : r ≡ lineSeen (lookLine q e)) where
-      line-at : r ≡ Line.Seen (lineAt q e) (bendPlace q (lineAt q e))
-      line-at = is ∙ rw (lt-ltb e (length (q .lines)) el)
+    -- A line that is there is seen,
+    line-at : lineSeen (lookLine q e) ≡ lineSeen (good (Rules.seen (q .style) (lineAt q e) (bendPlace q (lineAt q e))))
+    line-at = rw (lt-ltb e (length (q .lines)) el)
 
-      pub line-seen : (l : Line) (x : Place) → r ≡ Line.Seen l x → (l ≡ lineAt q e) × (x ≡ bendPlace q (lineAt q e))
-      line-seen l x z = let y = line-at in (cc, cc)
+    pub line-seen : (r : LineSeen) → r ≡ lineSeen (lookLine q e) → lineIn r ≡ lineAt q e
+    line-seen r is = ap lineIn (is ∙ line-at) ∙ go (q .style)
+      where
+        go : (τ : Style) → lineIn (lineSeen (good (Rules.seen τ (lineAt q e) (bendPlace q (lineAt q e))))) ≡ lineAt q e
+        go OneBend = refl
+        go Straight = refl
 
-      pub line-sure : (f : Refusal) (n : ℕ) → r ≡ Line.Refused f n → ⊥
-      line-sure f n z = let y = line-at in let o : _≡_ {A = ℕ} 0 1 = cc in omega arith
+    -- and with its bend where it has one.
+    pub bend-seen : (r : LineSeen) → r ≡ lineSeen (lookLine q e) → (p : Place) → bendIn r p ≡ bendBy (q .style) (bendPlace q (lineAt q e)) p
+    bend-seen r is p = ap (λ (s : LineSeen). bendIn s p) (is ∙ line-at) ∙ go (q .style)
+      where
+        go : (τ : Style) → bendIn (lineSeen (good (Rules.seen τ (lineAt q e) (bendPlace q (lineAt q e))))) p ≡ bendBy τ (bendPlace q (lineAt q e)) p
+        go OneBend = refl
+        go Straight = refl

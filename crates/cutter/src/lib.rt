@@ -5,7 +5,9 @@ use answers::Moved;
 use answers::PointSeen;
 use drawing::Drawing;
 use drawing::Placed;
+use rules::Bend;
 use rules::Kind;
+use rules::Line;
 use rules::Place;
 use rules::Refusal;
 use store_links::Counts;
@@ -27,10 +29,12 @@ ghost use Rattle.store_laws.specs.Adding.{Holds};
 ghost use Rattle.store_tables.specs.Tables.{arraysIn};
 ghost use Rattle.answers.specs.Told.{toldCount};
 ghost use Rattle.tool.specs.Checking.{wholeTool, toolOf, InRange};
+ghost use Rattle.tool.specs.Showing.{movesPer};
 ghost use Rattle.drawing.specs.View.{Is, Came};
 ghost use Rattle.drawing.specs.Places.{PlacedIn, IsPlaced};
-ghost use Rattle.cutter.specs.Numbering.{fiveOf};
+ghost use Rattle.cutter.specs.Numbering.{movesOnce};
 ghost use Rattle.cutter.specs.Cuts.{NthCut, cuts, cutsTo};
+ghost use Rattle.cutter.specs.Grid.{lineIn, bendIn};
 ghost use Rattle.cutter.specs.Seen.{IsMove, MoveSeen, moveCount};
 
 // How often a line with this entry is cut: a guide never, a plain line once, a feeder twice.
@@ -88,17 +92,45 @@ fn place_of(table: &Table, x: &[u16; POINTS], c: Counts, p: u16) -> Place
     a
 }
 
-// Move `which`, from 0, of the five of line e.
-fn move_of(table: &Table, x: &[u16; POINTS], c: Counts, e: usize, which: usize, t: Numbers) -> Move
-    requires { ⌜ PlacedIn c (now table) (now x) × (e < c .lines) × (which < 5) × InRange t ⌝ }
-    ensures { λ r. ⌜ ((q : Plan) → Holds q (arraysIn (now (table .entry))) c → IsMove r (getD (fiveOf q (toolOf t) (lineAt q e)) which (lift 0))) ⌝ }
+// The line that was seen; a line without ends where none was.
+fn line_of(seen: LineSeen) -> Line
+    ensures { λ r. ⌜ r ≡ lineIn seen ⌝ }
 {
-    let LineSeen::Seen(l, bend) = store_looking::look_line(table, x, c, e) else {
-        return Move::Lift(0.0);
-    };
+    match seen {
+        LineSeen::Bent(l, _) => l,
+        LineSeen::Straight(l) => l,
+        LineSeen::Refused(_, _) => Line {
+            later: 0,
+            earlier: 0,
+            bend: Bend::NoBend,
+            kind: Kind::Guide,
+        },
+    }
+}
+
+// Where it bends; of a straight line, which doesn't, the place of its earlier end stands for that.
+fn bend_of(seen: LineSeen, earlier: Place) -> Place
+    ensures { λ r. ⌜ r ≡ bendIn seen earlier ⌝ }
+{
+    match seen {
+        LineSeen::Bent(_, bend) => bend,
+        LineSeen::Straight(_) => earlier,
+        LineSeen::Refused(_, _) => earlier,
+    }
+}
+
+// Move `which`, from 0, of those that line e has each time that it is cut.
+fn move_of(table: &Table, x: &[u16; POINTS], c: Counts, e: usize, which: usize, t: Numbers) -> Move
+    requires { ⌜ PlacedIn c (now table) (now x) × (e < c .lines) × (which < movesPer (c .style)) × InRange t ⌝ }
+    ensures { λ r. ⌜ ((q : Plan) → Holds q (arraysIn (now (table .entry))) c → IsMove r (getD (movesOnce q (toolOf t) (lineAt q e)) which (lift 0))) ⌝ }
+{
+    let seen = store_looking::look_line(table, x, c, e);
+    let l = line_of(seen);
     let later = place_of(table, x, c, l.later);
     let earlier = place_of(table, x, c, l.earlier);
-    tool::line_move(which, c.s, later, bend, earlier, t)
+    let bend = bend_of(seen, earlier);
+    let style = c.style;
+    tool::line_move(style, which, c.s, later, bend, earlier, t)
 }
 
 // Move `number`, from 0, of the moves with this tool, from a lent table and its settled x. Refusals in order: 12, 22, 23.
@@ -113,11 +145,13 @@ pub fn look_move(table: &Table, x: &[u16; POINTS], c: Counts, t: Tool, number: u
     if c.k < c.n {
         return Moved::Refused(Refusal::Unfinished, 0);
     }
-    let e = nth_cut(table, c.lines, number / 5);
+    let style = c.style;
+    let each = tool::moves_per(style);
+    let e = nth_cut(table, c.lines, number / each);
     if c.lines <= e {
         return Moved::Refused(Refusal::NoSuch, 0);
     }
-    Moved::Made(move_of(table, x, c, e, number % 5, numbers))
+    Moved::Made(move_of(table, x, c, e, number % each, numbers))
 }
 
 // The same of a drawing by value. It takes the time of one pass over the lines: x is settled beforehand, once for all moves.
@@ -129,7 +163,7 @@ pub fn move_at(v: Placed, t: Tool, number: usize) -> Moved
     look_move(&d.table, &v.x, d.counts, t, number)
 }
 
-// How many moves a finished drawing has, whatever the tool: five for each cut.
+// How many moves a finished drawing has, whatever the tool: five for each cut, four where lines are straight.
 pub fn move_count(d: Drawing) -> Counted
     requires { ⌜ Came d ⌝ }
     ensures { λ r. ⌜ ((q : Plan) (t : WholeTool) → Is q d → toldCount r ≡ told (moveCount q t)) ⌝ }
@@ -138,5 +172,7 @@ pub fn move_count(d: Drawing) -> Counted
     if c.k < c.n {
         return Counted::Refused(Refusal::Unfinished, 0);
     }
-    Counted::Moves(5 * cut_count(&d.table, c.lines))
+    let style = c.style;
+    let moves = tool::moves_per(style) * cut_count(&d.table, c.lines);
+    Counted::Moves(moves)
 }

@@ -1,10 +1,12 @@
-// The tool's numbers, and the five moves of one line in f32, exactly.
+// The tool's numbers, and the moves of one line in f32, exactly.
 ghost use mathlib.Core.Path.{_≡_};
 ghost use Prim.Native.Nat.{_*_, _≤_, _<_};
 ghost use Rattle.rules.specs.Moves.{cut};
 ghost use Rattle.tool.specs.Checking.{wholeNumber, WholePart, checkedOf, InRange};
-ghost use Rattle.tool.specs.Showing.{Shows, overEight, inFloats, lineMove, OnGrid};
+ghost use Rattle.tool.specs.Showing.{Shows, overEight, inFloats, movesPer, stepOf, lineMove, OnGrid};
+ghost use Rattle.rules.specs.declared.Style.the-variants.{OneBend};
 use rules::Place;
+use rules::Style;
 
 // The tool as it is handed over: each f32 a whole number of eighths of a millimetre.
 pub struct Tool {
@@ -98,17 +100,9 @@ fn cut_to(s: usize, p: Place, pitch: u32) -> Move
 }
 
 // Move `which`, from 0, of the five of a line from its later point over the bend to its earlier point.
-// For `cutter`: it asks for places on the grid and numbers in range, which are tested or proved there.
-pub fn line_move(
-    which: usize,
-    s: usize,
-    later: Place,
-    bend: Place,
-    earlier: Place,
-    t: Numbers,
-) -> Move
+fn bent_move(which: usize, s: usize, later: Place, bend: Place, earlier: Place, t: Numbers) -> Move
     requires { ⌜ (which < 5) × (s ≤ 8) × OnGrid later × OnGrid bend × OnGrid earlier × InRange t ⌝ }
-    ensures { λ r. ⌜ (r ≡ inFloats (lineMove which s later bend earlier t)) × Shows r (lineMove which s later bend earlier t) ⌝ }
+    ensures { λ r. ⌜ (r ≡ inFloats (lineMove OneBend which s later bend earlier t)) × Shows r (lineMove OneBend which s later bend earlier t) ⌝ }
 {
     match which {
         0 => Move::Travel(
@@ -120,4 +114,43 @@ pub fn line_move(
         3 => cut_to(s, earlier, t.pitch),
         _ => Move::Lift(over_eight(t.clearance)),
     }
+}
+
+// How many moves a line has each time that it is cut.
+pub fn moves_per(style: Style) -> usize
+    ensures { λ r. ⌜ r ≡ movesPer style ⌝ }
+    ensures some { λ r. ⌜ (4 ≤ r) × (r ≤ 5) ⌝ }
+{
+    match style {
+        Style::OneBend => 5,
+        Style::Straight => 4,
+    }
+}
+
+// Which of the five moves of a line with a bend is move `which` of a line: a straight one has all but the cut to the bend.
+fn step_of(style: Style, which: usize) -> usize
+    requires { ⌜ which < movesPer style ⌝ }
+    ensures { λ r. ⌜ r ≡ stepOf style which ⌝ }
+{
+    match style {
+        Style::OneBend => which,
+        Style::Straight => { if which < 2 { which } else { which + 1 } }
+    }
+}
+
+// Move `which`, from 0, of a line from its later point, over the bend if it has one, to its earlier point; of a straight line the bend isn't looked at.
+// For `cutter`: it asks for places on the grid and numbers in range, which are tested or proved there.
+pub fn line_move(
+    style: Style,
+    which: usize,
+    s: usize,
+    later: Place,
+    bend: Place,
+    earlier: Place,
+    t: Numbers,
+) -> Move
+    requires { ⌜ (which < movesPer style) × (s ≤ 8) × OnGrid later × OnGrid bend × OnGrid earlier × InRange t ⌝ }
+    ensures { λ r. ⌜ (r ≡ inFloats (lineMove style which s later bend earlier t)) × Shows r (lineMove style which s later bend earlier t) ⌝ }
+{
+    bent_move(step_of(style, which), s, later, bend, earlier, t)
 }

@@ -1,71 +1,28 @@
--- `tool::line_move` meets its contract: each arm is the move of its number, in f32.
-use mathlib.Core.Path.{_≡_}
-use native.Mathlib.Omega.{arith}
+-- `tool::line_move` meets its contract: the move is one of those of a line with a bend.
+use mathlib.Core.Path.{_≡_, ap, _∙_, subst}
 use borrow.Author.Needs.{needs}
-use Rattle.tool.proofs.Made.{made}
+use Rattle.rules.specs.declared.Style.the-variants.{OneBend}
+use Rattle.rules.specs.Moves.{Move as WholeMove}
+use Rattle.tool.specs.Showing.{Shows, inFloats, lineMove, step-is}
 use Rattle.tool.proofs.line_move.Statement.{statement}
 use Rattle.tool.proofs.line_move.Tie as tie
 
-coordinate-requires : tie.Need-coordinate-requires
-coordinate-requires c κs = search needs
+step-of-requires : tie.Need-step-of-requires
+step-of-requires c κs = search needs
 
-coordinate-requires-2 : tie.Need-coordinate-requires-2
-coordinate-requires-2 c κs = search needs
-
-over-eight-requires : tie.Need-over-eight-requires
-over-eight-requires c κs = search needs
-
-cut-to-requires : tie.Need-cut-to-requires
-cut-to-requires c κs = search needs
-
-cut-to-requires-2 : tie.Need-cut-to-requires-2
-cut-to-requires-2 c κs = search needs
-
-over-eight-requires-2 : tie.Need-over-eight-requires-2
-over-eight-requires-2 c κs = search needs
+bent-move-requires : tie.Need-bent-move-requires
+bent-move-requires c κs =
+    let a = c .before .args in
+    let p = c .before .pre in
+    let k = step-is (a .style) (a .which) (a .s) (a .later) (a .bend) (a .earlier) (a .t) (p .0) in
+    (rw (c .step-of .ensures) (k .0), p .1, p .2, p .3, p .4, p .5)
 
 returns : tie.Need-returns
 returns c =
-    let s = c .before .before .before in
-    let w : s .args .which ≡ 0 = omega arith in
-    made (s .args .which) (s .args .s) (s .pre) (simp (w, c .before .coordinate .ensures, c .coordinate2 .ensures))
-
-returns-2 : tie.Need-returns-2
-returns-2 c =
-    let s = c .before .before in
-    let w : s .args .which ≡ 1 = omega arith in
-    made (s .args .which) (s .args .s) (s .pre) (simp (w, c .over-eight .ensures))
-
-returns-3 : tie.Need-returns-3
-returns-3 c =
-    let s = c .before .before in
-    let w : s .args .which ≡ 2 = omega arith in
-    made (s .args .which) (s .args .s) (s .pre) (simp (w, c .cut-to .ensures))
-
-returns-4 : tie.Need-returns-4
-returns-4 c =
-    let s = c .before .before in
-    let w : s .args .which ≡ 3 = omega arith in
-    made (s .args .which) (s .args .s) (s .pre) (simp (w, c .cut-to2 .ensures))
-
-returns-5 : tie.Need-returns-5
-returns-5 c =
-    let s = c .before .before in
-    let w : s .args .which ≡ 4 = omega arith in
-    made (s .args .which) (s .args .s) (s .pre) (simp (w, c .over-eight2 .ensures))
+    let a = c .before .before .args in
+    let k = step-is (a .style) (a .which) (a .s) (a .later) (a .bend) (a .earlier) (a .t) (c .before .before .pre .0) in
+    let z = ap (λ n. lineMove OneBend n (a .s) (a .later) (a .bend) (a .earlier) (a .t)) (c .before .step-of .ensures) ∙ k .1 in
+    subst (λ (m : WholeMove). (c .bent-move .result ≡ inFloats m) × Shows (c .bent-move .result) m) z (c .bent-move .ensures)
 
 pub line-move-spec : {M : Type 1} → statement M
-line-move-spec =
-    tie.close
-    (tie.spec
-    coordinate-requires
-    coordinate-requires-2
-    over-eight-requires
-    cut-to-requires
-    cut-to-requires-2
-    over-eight-requires-2
-    returns
-    returns-2
-    returns-3
-    returns-4
-    returns-5)
+line-move-spec = tie.close (tie.spec step-of-requires bent-move-requires returns)
