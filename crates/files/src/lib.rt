@@ -3,6 +3,7 @@ use libc::STDERR_FILENO;
 use libc::STDOUT_FILENO;
 use rules::LONGEST_DRAWING;
 use rules::LONGEST_ORDER;
+use rules::Style;
 ghost use Prim.Native.Nat.{_≤_};
 ghost use lib.ListN.{length};
 
@@ -59,27 +60,27 @@ fn print(bytes: &[u8]) -> Outcome {
     }
 }
 
-// The drawing program on an open file.
-pub fn draw(fd: i32) -> Outcome {
+// The drawing program of a style on an open file.
+pub fn draw(style: Style, fd: i32) -> Outcome {
     let mut order = [0u8; ORDER_INPUT];
     let input = read_input(fd, &mut order);
     if input.failed {
         return Outcome::NotRead;
     }
     let mut page = [0u8; LONGEST_DRAWING];
-    let length = printing::draw_page(&order, input.bytes, &mut page);
+    let length = printing::draw_page(style, &order, input.bytes, &mut page);
     print(&page[..length])
 }
 
-// The reading program on an open file.
-pub fn undraw(fd: i32) -> Outcome {
+// The reading program of a style on an open file.
+pub fn undraw(style: Style, fd: i32) -> Outcome {
     let mut file = [0u8; DRAWING_INPUT];
     let input = read_input(fd, &mut file);
     if input.failed {
         return Outcome::NotRead;
     }
     let mut page = [0u8; LONGEST_ORDER];
-    let length = printing::undraw_page(&file, input.bytes, &mut page);
+    let length = printing::undraw_page(style, &file, input.bytes, &mut page);
     print(&page[..length])
 }
 

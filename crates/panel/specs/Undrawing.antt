@@ -4,6 +4,7 @@ use mathlib.Core.Path.{_≡_}
 use mathlib.Core.List.{List}
 use native.Mathlib.Omega.{arith}
 use borrow.Author.Tests.{le-ltb}
+use Rattle.rules.specs.declared.Style.{Style}
 use Rattle.rules.specs.declared.Answer.the-variants.{Accepted, Refused}
 use Rattle.rules.specs.declared.Refusal.{Refusal}
 use Rattle.rules.specs.Refusals.{good, refused, answer, _>>_}
@@ -19,35 +20,35 @@ use Rattle.read_drawings.specs.Contracted.{LinesRead}
 use Rattle.write_files.specs.Outputs.{Ended}
 
 -- what comes back once the bytes are compared
-back : (f : List ℕ) (d : Plan) → Whole d → judgeDrawing f ≡ good d → orderBack f ≡ (compareBytes 0 f (drawingBytes d) >> good (writeOrder d))
+back : (τ : Style) (f : List ℕ) (d : Plan) → Whole d → judgeDrawing τ f ≡ good d → orderBack τ f ≡ (compareBytes 0 f (drawingBytes d) >> good (writeOrder d))
 unfolding readDrawing
-back f d w h =
+back τ f d w h =
     let t = le-ltb (d .k) (d .n) (omega (arith, w .full)) in
     rw h (then-value (compareBytes 0 f (drawingBytes d)) d _ _ (rw t))
 
-module _ (f : List ℕ) {a : Arrays} {v : Added} (g : LinesRead f a v) where
+module _ (τ : Style) (f : List ℕ) {a : Arrays} {v : Added} (g : LinesRead τ f a v) where
   -- lines that passed: the arrays hold a whole drawing
   pub lines-ended : v .answer ≡ Accepted → Ended a (v .counts)
   lines-ended h =
-      let o = accepted (judgeDrawing f) (cc (g .answers)) in
-      record { d = o .value; whole = whole-judged f (o .value) (o .is); holds = g .holds (o .value) (o .is) }
+      let o = accepted (judgeDrawing τ f) (cc (g .answers)) in
+      record { d = o .value; whole = whole-judged τ f (o .value) (o .is) .0; holds = g .holds (o .value) (o .is) }
 
   -- a refusal is that of the file
-  pub lines-refused : (r : Refusal) (p : ℕ) → v .answer ≡ Refused r p → orderBack f ≡ refused r p
+  pub lines-refused : (r : Refusal) (p : ℕ) → v .answer ≡ Refused r p → orderBack τ f ≡ refused r p
   unfolding readDrawing
-  lines-refused r p h = let e = refusing (judgeDrawing f) r p (cc (g .answers)) in rw e
+  lines-refused r p h = let e = refusing (judgeDrawing τ f) r p (cc (g .answers)) in rw e
 
   -- so is 11
-  pub bytes-differ : (e : v .answer ≡ Accepted) (r : Refusal) (p : ℕ) → answer (compareBytes 0 f (drawingBytes (lines-ended e .d))) ≡ Refused r p → orderBack f ≡ refused r p
+  pub bytes-differ : (e : v .answer ≡ Accepted) (r : Refusal) (p : ℕ) → answer (compareBytes 0 f (drawingBytes (lines-ended e .d))) ≡ Refused r p → orderBack τ f ≡ refused r p
   unfolding lines-ended
   bytes-differ h r p k =
-      let o = accepted (judgeDrawing f) (cc (g .answers)) in
-      rw (back f (o .value) (whole-judged f (o .value) (o .is)) (o .is), refusing (compareBytes 0 f (drawingBytes (o .value))) r p k)
+      let o = accepted (judgeDrawing τ f) (cc (g .answers)) in
+      rw (back τ f (o .value) (whole-judged τ f (o .value) (o .is) .0) (o .is), refusing (compareBytes 0 f (drawingBytes (o .value))) r p k)
 
   -- with the drawing's own bytes the order file comes back
-  pub bytes-same : (e : v .answer ≡ Accepted) → answer (compareBytes 0 f (drawingBytes (lines-ended e .d))) ≡ Accepted → orderBack f ≡ good (writeOrder (lines-ended e .d))
+  pub bytes-same : (e : v .answer ≡ Accepted) → answer (compareBytes 0 f (drawingBytes (lines-ended e .d))) ≡ Accepted → orderBack τ f ≡ good (writeOrder (lines-ended e .d))
   unfolding lines-ended
   bytes-same h k =
-      let o = accepted (judgeDrawing f) (cc (g .answers)) in
+      let o = accepted (judgeDrawing τ f) (cc (g .answers)) in
       let z = accepted (compareBytes 0 f (drawingBytes (o .value))) k in
-      rw (back f (o .value) (whole-judged f (o .value) (o .is)) (o .is), z .is)
+      rw (back τ f (o .value) (whole-judged τ f (o .value) (o .is) .0) (o .is), z .is)

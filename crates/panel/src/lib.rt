@@ -4,6 +4,7 @@ use drawing::Done;
 use drawing::Drawing;
 use rules::Answer;
 use rules::LONGEST_DRAWING;
+use rules::Style;
 use store_links::Counts;
 use store_tables::END;
 use store_tables::Table;
@@ -12,7 +13,7 @@ ghost use Rattle.rules.specs.Refusals.{good, answer};
 ghost use Rattle.rules.specs.Points.{Drawing as Plan};
 ghost use Rattle.rules.specs.OrderFile.{readOrder};
 ghost use Rattle.rules.specs.DrawingFile.{drawingBytes, writeDrawing, drawFile, readDrawing, orderBack, compareBytes};
-ghost use Rattle.promise.specs.Promise.{Promise};
+ghost use Rattle.promise.specs.Promise.{Promised};
 ghost use Rattle.store_tables.specs.Tables.{arraysIn};
 ghost use Rattle.store_laws.specs.Adding.{Holds};
 ghost use Rattle.exchange.specs.Built.{Reached, Whole};
@@ -21,13 +22,13 @@ ghost use Rattle.drawing.specs.Opens.{Gives};
 ghost use Rattle.write_files.specs.Outputs.{Wrote, Ended};
 ghost use Rattle.write_files.specs.Finishing.{wholeOrder};
 
-// The drawing of an order file, by value, which keeps demand 3; with a refusal goes a drawing of zeros.
-pub fn drawing_of(order: &[u8]) -> Done
-    ensures given { λ r. ⌜ Gives (readOrder (now (order .entry))) r ⌝ }
-    ensures keeps { λ _. ⌜ ((d : Plan) → readOrder (now (order .entry)) ≡ good d → Promise d) ⌝ }
+// The drawing of an order file in a style, by value, which keeps the promise of that style; with a refusal goes a drawing of zeros.
+pub fn drawing_of(style: Style, order: &[u8]) -> Done
+    ensures given { λ r. ⌜ Gives (readOrder style (now (order .entry))) r ⌝ }
+    ensures keeps { λ _. ⌜ ((d : Plan) → readOrder style (now (order .entry)) ≡ good d → Promised style d) ⌝ }
 {
     let mut table = [0u16; END];
-    let read = read_orders::read_order(order, &mut table);
+    let read = read_orders::read_order(order, style, &mut table);
     let counts = read.counts;
     let answer = read.answer;
     let Answer::Accepted = answer else {
@@ -56,13 +57,13 @@ pub fn order_file(d: Drawing, out: &mut [u8]) -> Written
     write_files::order_file(out, &d.table, d.counts)
 }
 
-// Draws an order file: the drawing file of its drawing, which keeps demand 3, or the refusal of document 01.
-pub fn draw(order: &[u8], out: &mut [u8]) -> Written
-    ensures wrote { λ r. ⌜ Wrote (now (out .entry)) (drawFile (now (order .entry))) (now (out .exit)) r ⌝ }
-    ensures keeps { λ _. ⌜ ((d : Plan) → readOrder (now (order .entry)) ≡ good d → Promise d) ⌝ }
+// Draws an order file in a style: the drawing file of its drawing, which keeps the promise of that style, or the refusal of document 01.
+pub fn draw(style: Style, order: &[u8], out: &mut [u8]) -> Written
+    ensures wrote { λ r. ⌜ Wrote (now (out .entry)) (drawFile style (now (order .entry))) (now (out .exit)) r ⌝ }
+    ensures keeps { λ _. ⌜ ((d : Plan) → readOrder style (now (order .entry)) ≡ good d → Promised style d) ⌝ }
 {
     let mut table = [0u16; END];
-    let given = read_orders::read_order(order, &mut table);
+    let given = read_orders::read_order(order, style, &mut table);
     let c = given.counts;
     let answer = given.answer;
     match answer {
@@ -77,18 +78,19 @@ fn compare_drawing(file: &[u8], table: &Table, c: Counts) -> Answer
     ensures { λ r. ⌜ ((d : Plan) → Whole d → Holds d (arraysIn (now (table .entry))) c → r ≡ answer (compareBytes 0 (now (file .entry)) (drawingBytes d))) ⌝ }
 {
     let mut drawn = [0u8; LONGEST_DRAWING];
-    let need = write_files::drawing_length(c.n);
+    let style = c.style;
+    let need = write_files::drawing_length(style, c.n);
     write_files::put_drawing(&mut drawn, table, c);
     read_comparing::compare(file, &drawn[..need])
 }
 
-// Reads a drawing file, whose drawing keeps demand 3, and gives its order file back, or the refusal of document 01.
-pub fn undraw(file: &[u8], out: &mut [u8]) -> Written
-    ensures wrote { λ r. ⌜ Wrote (now (out .entry)) (orderBack (now (file .entry))) (now (out .exit)) r ⌝ }
-    ensures keeps { λ _. ⌜ ((d : Plan) → readDrawing (now (file .entry)) ≡ good d → Promise d) ⌝ }
+// Reads a drawing file of a style, whose drawing keeps the promise of that style, and gives its order file back, or the refusal of document 01.
+pub fn undraw(style: Style, file: &[u8], out: &mut [u8]) -> Written
+    ensures wrote { λ r. ⌜ Wrote (now (out .entry)) (orderBack style (now (file .entry))) (now (out .exit)) r ⌝ }
+    ensures keeps { λ _. ⌜ ((d : Plan) → readDrawing style (now (file .entry)) ≡ good d → Promised style d) ⌝ }
 {
     let mut table = [0u16; END];
-    let read = read_drawings::read_lines(file, &mut table);
+    let read = read_drawings::read_lines(file, style, &mut table);
     let c = read.counts;
     let answer = read.answer;
     match answer {

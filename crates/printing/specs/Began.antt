@@ -5,6 +5,7 @@ use mathlib.Core.List.{List}
 use native.Mathlib.Omega.{arith}
 use lib.ListN.{length, take}
 use lib.Seq.{take-all, length-take-le}
+use Rattle.rules.specs.declared.Style.{Style}
 use Rattle.rules.specs.Refusals.{Result}
 use Rattle.rules.specs.DrawingFile.{drawFile, orderBack, longestDrawing}
 use Rattle.rules.specs.Output.{judgedBytes}
@@ -20,11 +21,11 @@ pub record Began (file buffer : List ℕ) (n : ℕ) : Type 0 where
 pub began-itself : (buffer : List ℕ) (n : ℕ) → n ≤ length buffer → Began (take n buffer) buffer n
 began-itself buffer n h = record { is = sym (take-all (length buffer) (take n buffer) (omega (arith, length-take-le n buffer h))) }
 
-module _ (file : List ℕ) {buffer : List ℕ} {n : ℕ} (b : Began file buffer n) {page after : List ℕ} {answer : Written} where
+module _ (τ : Style) (file : List ℕ) {buffer : List ℕ} {n : ℕ} (b : Began file buffer n) {page after : List ℕ} {answer : Written} where
   -- "It judges the first 32,768 bytes of its input as the whole file": the bytes read are these
-  pub draws : length buffer ≡ judgedBytes → Wrote page (drawFile (take n buffer)) after answer → Wrote page (drawFile (take judgedBytes file)) after answer
-  draws h w = subst (λ (f : List ℕ). Wrote page (drawFile f) after answer) (b .is ∙ ap (λ (k : ℕ). take k file) h) w
+  pub draws : length buffer ≡ judgedBytes → Wrote page (drawFile τ (take n buffer)) after answer → Wrote page (drawFile τ (take judgedBytes file)) after answer
+  draws h w = subst (λ (f : List ℕ). Wrote page (drawFile τ f) after answer) (b .is ∙ ap (λ (k : ℕ). take k file) h) w
 
   -- a drawing file is as good as its first bytes
-  pub undraws : longestDrawing < length buffer → Wrote page (orderBack (take n buffer)) after answer → Wrote page (orderBack file) after answer
-  undraws h w = subst (λ (o : Result (List ℕ)). Wrote page o after answer) (ap orderBack (b .is) ∙ first-bytes (length buffer) file h) w
+  pub undraws : longestDrawing < length buffer → Wrote page (orderBack τ (take n buffer)) after answer → Wrote page (orderBack τ file) after answer
+  undraws h w = subst (λ (o : Result (List ℕ)). Wrote page o after answer) (ap (orderBack τ) (b .is) ∙ first-bytes τ (length buffer) file h) w

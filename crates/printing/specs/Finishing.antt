@@ -5,6 +5,7 @@ use mathlib.Core.List.{List}
 use native.Mathlib.Omega.{arith}
 use lib.ListN.{length, drop, length-append}
 use borrow.Author.Tests.{le-ltb}
+use Rattle.rules.specs.declared.Style.{Style}
 use Rattle.rules.specs.declared.Refusal.{Refusal}
 use Rattle.rules.specs.Refusals.{number, Result, good, refused, gives, told}
 use Rattle.rules.specs.Numbers.{never-gives, same-refusal}
@@ -25,11 +26,11 @@ pub record Room (page : List ℕ) (wanted : Result (List ℕ)) : Type 0 where
   pub fits : (bytes : List ℕ) → wanted ≡ good bytes → length bytes ≤ length page
 
 -- as a page for the longest file has
-pub drawing-room : (page f : List ℕ) → longestDrawing ≤ length page → Room page (drawFile f)
-drawing-room page f h = record { fits = λ bytes e. omega (arith, drawn-most f bytes e) }
+pub drawing-room : (τ : Style) (page f : List ℕ) → longestDrawing ≤ length page → Room page (drawFile τ f)
+drawing-room τ page f h = record { fits = λ bytes e. omega (arith, drawn-most τ f bytes e) }
 
-pub order-room : (page f : List ℕ) → longestOrder ≤ length page → Room page (orderBack f)
-order-room page f h = record { fits = λ bytes e. omega (arith, back-most f bytes e) }
+pub order-room : (τ : Style) (page f : List ℕ) → longestOrder ≤ length page → Room page (orderBack τ f)
+order-room τ page f h = record { fits = λ bytes e. omega (arith, back-most τ f bytes e) }
 
 -- with room, 24 is no answer
 fitted-same : (page : List ℕ) (wanted : Result (List ℕ)) → Room page wanted → fitted page wanted ≡ wanted

@@ -1,6 +1,7 @@
-// What the two programs print: from the bytes read to the bytes to write, proved equal to `Output.program` and `Output.backProgram`.
+// What the programs print, in either style: from the bytes read to the bytes to write, proved equal to `Output.program` and `Output.backProgram`.
 // The functions ask for buffers of document 01's sizes, so that 24 never happens; `files` has them.
 use answers::Written;
+use rules::Style;
 ghost use mathlib.Core.Path.{_≡_};
 ghost use Prim.Native.Nat.{ℕ, _≤_, _<_};
 ghost use mathlib.Core.List.{List};
@@ -25,21 +26,21 @@ fn finish(written: Written, page: &mut [u8]) -> usize
     }
 }
 
-// The drawing program: n bytes of an order file were read into `input`, and the page then begins with what is to be printed.
+// A drawing program: n bytes of an order file were read into `input`, and the page then begins with what is to be printed.
 // Returns how many bytes that is. It judges the first 32,768 bytes of the file as the whole file, and so asks for a buffer of that length.
-pub fn draw_page(input: &[u8], n: usize, page: &mut [u8]) -> usize
+pub fn draw_page(style: Style, input: &[u8], n: usize, page: &mut [u8]) -> usize
     requires { ⌜ (length (now input) ≡ judgedBytes) × (n ≤ length (now input)) × (longestDrawing ≤ length (now page)) ⌝ }
-    ensures { λ r. ⌜ ((file : List ℕ) → Began file (now (input .entry)) n → Printed (now (page .entry)) (program file) (now (page .exit)) r) ⌝ }
+    ensures { λ r. ⌜ ((file : List ℕ) → Began file (now (input .entry)) n → Printed (now (page .entry)) (program style file) (now (page .exit)) r) ⌝ }
 {
-    let written = panel::draw(&input[..n], page);
+    let written = panel::draw(style, &input[..n], page);
     finish(written, page)
 }
 
-// The reading program, in the same manner. A buffer that is longer than every drawing file tells as much as the whole file.
-pub fn undraw_page(input: &[u8], n: usize, page: &mut [u8]) -> usize
+// A reading program, in the same manner. A buffer that is longer than every drawing file tells as much as the whole file.
+pub fn undraw_page(style: Style, input: &[u8], n: usize, page: &mut [u8]) -> usize
     requires { ⌜ (longestDrawing < length (now input)) × (n ≤ length (now input)) × (longestOrder ≤ length (now page)) ⌝ }
-    ensures { λ r. ⌜ ((file : List ℕ) → Began file (now (input .entry)) n → Printed (now (page .entry)) (backProgram file) (now (page .exit)) r) ⌝ }
+    ensures { λ r. ⌜ ((file : List ℕ) → Began file (now (input .entry)) n → Printed (now (page .entry)) (backProgram style file) (now (page .exit)) r) ⌝ }
 {
-    let written = panel::undraw(&input[..n], page);
+    let written = panel::undraw(style, &input[..n], page);
     finish(written, page)
 }

@@ -1,9 +1,10 @@
 -- A file that passes: the arrays as opened hold the drawing that it begins, and the groups of points 4 to n give the rest.
 use Prim.Native.Nat.{ℕ, _+_, _-_, _*_, _≤_}
-use mathlib.Core.Path.{_≡_, ap, sym, _∙_}
+use mathlib.Core.Path.{_≡_, ap, ap₂, sym, _∙_, subst}
 use mathlib.Core.List.{List}
 use native.Mathlib.Omega.{arith}
 use lib.ListN.{length}
+use Rattle.rules.specs.declared.Style.{Style}
 use Rattle.rules.specs.declared.Refusal.{Refusal}
 use Rattle.rules.specs.declared.Answer.{Answer}
 use Rattle.rules.specs.declared.Answer.the-variants.{Refused}
@@ -27,12 +28,12 @@ use Rattle.read_drawings.specs.Whole.{judged-so, firstLine, secondLine, 
 use Rattle.read_drawings.specs.Contracted.{restGroups, AllGrouped, LinesRead}
 
 -- a refusal before the groups
-pub refused-early : {f : List ℕ} {a : Arrays} {c : Counts} (said : Answer) → said ≡ answer (fileTests f) → (r : Refusal) (p : ℕ) → said ≡ Refused r p → LinesRead f a (record { answer = said; counts = c })
-refused-early {f} said h r p q =
+pub refused-early : {τ : Style} {f : List ℕ} {a : Arrays} {c : Counts} (said : Answer) → said ≡ answer (fileTests τ f) → (r : Refusal) (p : ℕ) → said ≡ Refused r p → LinesRead τ f a (record { answer = said; counts = c })
+refused-early {τ} {f} said h r p q =
     let t = sym h ∙ q in
     record {
-      answers = h ∙ stops (fileTests f) _ r p t ∙ sym (ap answer (judged-so f));
-      holds = λ d z. absurd (never (fileTests f) _ d t (sym (judged-so f) ∙ z));
+      answers = h ∙ stops (fileTests τ f) _ r p t ∙ sym (ap answer (judged-so τ f));
+      holds = λ d z. absurd (never (fileTests τ f) _ d t (sym (judged-so τ f) ∙ z));
     }
   where
     never : (x : Result (Unit {0})) (y : Result Drawing) (d : Drawing) → answer x ≡ Refused r p → (x >> y) ≡ good d → ⊥
@@ -40,32 +41,32 @@ refused-early {f} said h r p q =
     never (refused v i) y d e z = let o : _≡_ {A = ℕ} 0 1 = cc in omega arith
 
 -- where its lines lie
-pub lines-lie : {f : List ℕ} → Passes f → (n : ℕ) → n ≡ nIn f → (headSize + placeSize * n + lineSize * (3 * n - 6) ≤ length f) × (3 ≤ n) × (n ≤ 1024)
-lines-lie t n is = (omega (arith, t .there, t .low), omega (arith, t .low), omega (arith, t .high))
+pub lines-lie : {τ : Style} {f : List ℕ} → Passes τ f → (n : ℕ) → n ≡ nIn f → (headSize + placeSize * n + lineSize τ * (3 * n - 6) ≤ length f) × (3 ≤ n) × (n ≤ 1024)
+lines-lie {τ} {f} t n is = (subst (λ (m : ℕ). linesEnd τ m ≤ length f) (sym is) (t .there), omega (arith, t .low), omega (arith, t .high))
 
-module _ {f : List ℕ} (t : Passes f) (n s : ℕ) (isN : n ≡ nIn f) (isS : s ≡ sIn f) where
+module _ {τ : Style} {f : List ℕ} (t : Passes τ f) (n s : ℕ) (isN : n ≡ nIn f) (isS : s ≡ sIn f) where
   -- the arrays and the numbers as opened
-  pub opened-holds : (x y z : ℕ) (a : Arrays) (c : Counts) → x ≡ numberFor (entryIn (lineAt f (headSize + placeSize * n))) → y ≡ numberFor (entryIn (lineAt f (headSize + placeSize * n + lineSize))) → z ≡ numberFor (entryIn (lineAt f (headSize + placeSize * n + 2 * lineSize))) →
-      (a ≡ openArrays x y z) × (c ≡ openCounts n s) → Holds (begunIn f) a c
-  opened-holds x y z a c hx hy hz (ha, hc) =
-      let ex : entryOf x ≡ record { point = 1; kind = entryIn (firstLine f) .kind } =
-      ap entryOf (hx ∙ ap (λ (m : ℕ). numberFor (entryIn (lineAt f (headSize + placeSize * m)))) isN) ∙ number-back (firstLine f) 1 (t .first) (omega arith)
+  pub opened-holds : (size : ℕ) → size ≡ lineSize τ → (x y z : ℕ) (a : Arrays) (c : Counts) → x ≡ numberFor (entryIn τ (lineAt τ f (headSize + placeSize * n))) → y ≡ numberFor (entryIn τ (lineAt τ f (headSize + placeSize * n + size))) → z ≡ numberFor (entryIn τ (lineAt τ f (headSize + placeSize * n + size + size))) →
+      (a ≡ openArrays τ x y z) × (c ≡ openCounts τ n s) → Holds (begunIn τ f) a c
+  opened-holds size is x y z a c hx hy hz (ha, hc) =
+      let ex : entryOf x ≡ record { point = 1; kind = entryIn τ (firstLine τ f) .kind } =
+      ap entryOf (hx ∙ ap (λ (m : ℕ). numberFor (entryIn τ (lineAt τ f (headSize + placeSize * m)))) isN) ∙ number-back τ (firstLine τ f) 1 (t .first) (omega arith)
       in
-      let ey : entryOf y ≡ record { point = 1; kind = entryIn (secondLine f) .kind } =
-      ap entryOf (hy ∙ ap (λ (m : ℕ). numberFor (entryIn (lineAt f (headSize + placeSize * m + lineSize)))) isN) ∙ number-back (secondLine f) 1 (t .second) (omega arith)
+      let ey : entryOf y ≡ record { point = 1; kind = entryIn τ (secondLine τ f) .kind } =
+      ap entryOf (hy ∙ ap₂ (λ (m k : ℕ). numberFor (entryIn τ (lineAt τ f (headSize + placeSize * m + k)))) isN is) ∙ number-back τ (secondLine τ f) 1 (t .second) (omega arith)
       in
-      let ez : entryOf z ≡ record { point = 2; kind = entryIn (thirdLine f) .kind } =
-      ap entryOf (hz ∙ ap (λ (m : ℕ). numberFor (entryIn (lineAt f (headSize + placeSize * m + 2 * lineSize)))) isN) ∙ number-back (thirdLine f) 2 (t .third) (omega arith)
+      let ez : entryOf z ≡ record { point = 2; kind = entryIn τ (thirdLine τ f) .kind } =
+      ap entryOf (hz ∙ ap₂ (λ (m k : ℕ). numberFor (entryIn τ (lineAt τ f (headSize + placeSize * m + k + k)))) isN is) ∙ number-back τ (thirdLine τ f) 2 (t .third) (omega arith)
       in
       rw (ha, hc, isN, isS)
-      (record { standing = standing-start (nIn f) (sIn f) _ _ _ (t .low) (t .high); sized = sized-open (nIn f) (sIn f) (entryIn (firstLine f) .kind) (entryIn (secondLine f) .kind) (entryIn (thirdLine f) .kind) x y z; stores = stores-open (nIn f) (sIn f) _ _ _ x y z ex ey ez })
+      (record { standing = standing-start τ (nIn f) (sIn f) _ _ _ (t .low) (t .high); sized = sized-open τ (nIn f) (sIn f) (entryIn τ (firstLine τ f) .kind) (entryIn τ (secondLine τ f) .kind) (entryIn τ (thirdLine τ f) .kind) x y z; stores = stores-open τ (nIn f) (sIn f) _ _ _ x y z ex ey ez })
 
   -- what is left to judge
-  left-over : {c : Counts} → c ≡ openCounts n s → restGroups f (headSize + placeSize * n) (3 * n - 6) c (begunIn f) ≡ judgeDrawing f
+  left-over : {c : Counts} → c ≡ openCounts τ n s → restGroups τ f (headSize + placeSize * n) (3 * n - 6) c (begunIn τ f) ≡ judgeDrawing τ f
   left-over e =
-      ap (λ (c : Counts). restGroups f (headSize + placeSize * n) (3 * n - 6) c (begunIn f)) e ∙
-      ap (λ (m : ℕ). judgeRest (m - 3) (linesEnd m) (begunIn f) (linesAt f (lineCount m - 3) (linesFrom m + 3 * lineSize))) isN ∙ sym (t .left)
+      ap (λ (c : Counts). restGroups τ f (headSize + placeSize * n) (3 * n - 6) c (begunIn τ f)) e ∙
+      ap (λ (m : ℕ). judgeRest τ (m - 3) (linesEnd τ m) (begunIn τ f) (linesAt τ f (lineCount m - 3) (linesFrom m + lineSize τ * 3))) isN ∙ sym (t .left)
 
   -- the whole file
-  pub all-read : {a a′ : Arrays} {c : Counts} {r : Added} → c ≡ openCounts n s → Holds (begunIn f) a c → AllGrouped f (headSize + placeSize * n) (3 * n - 6) a c a′ r → LinesRead f a′ r
-  all-read e h g = record { answers = g .answers (begunIn f) h ∙ ap answer (left-over e); holds = λ d q. g .holds (begunIn f) d h (left-over e ∙ q) }
+  pub all-read : {a a′ : Arrays} {c : Counts} {r : Added} → c ≡ openCounts τ n s → Holds (begunIn τ f) a c → AllGrouped τ f (headSize + placeSize * n) (3 * n - 6) a c a′ r → LinesRead τ f a′ r
+  all-read e h g = record { answers = g .answers (begunIn τ f) h ∙ ap answer (left-over e); holds = λ d q. g .holds (begunIn τ f) d h (left-over e ∙ q) }

@@ -5,11 +5,13 @@ use mathlib.Core.Bool.{not, _&&_}
 use mathlib.Core.List.{List}
 use native.Mathlib.Omega.{arith}
 use lib.ListN.{length, getD}
+use Rattle.rules.specs.declared.Style.{Style}
 use Rattle.rules.specs.declared.Refusal.the-variants.{OutOfRange}
 use Rattle.rules.specs.Basics.{between}
 use Rattle.rules.specs.Refusals.{Result, good, refused, _>>_, _>>=_, refuseIf}
+use Rattle.rules.specs.Styles.{drawingMark, lineNumbers}
 use Rattle.rules.specs.Points.{Drawing}
-use Rattle.rules.specs.Records.{Cursor, Found, Several, several, readEnd, pointPlace, lineShape, drawingMark, placeMark, lineMark, headSize}
+use Rattle.rules.specs.Records.{Cursor, Found, Several, several, readEnd, pointPlace, lineShape, placeMark, lineMark, headSize}
 use Rattle.rules.specs.DrawingFile.{judgeLines, judgeDrawing}
 use Rattle.rules.specs.Results.{then-then, then-good, then-value}
 use Rattle.read_records.specs.Cursors.{cursor}
@@ -17,23 +19,23 @@ use Rattle.read_records.specs.Marked.{recordTest, recordAt, recordTests, words-
 use Rattle.read_groups.specs.Lines.{linesAt}
 use Rattle.read_judging.specs.Files.{nIn, sIn, linesFrom, lineCount, linesEnd, headTests, bodyTests}
 
-module _ (f : List ℕ) where
+module _ (τ : Style) (f : List ℕ) where
   -- the records behind the header
   abbrev behindHead : ℕ → ℕ → Cursor → Result Drawing
   behindHead n s at = do
     ps ← several n pointPlace at
-    ls ← several (3 * n - 6) lineShape (ps .next)
+    ls ← several (3 * n - 6) (lineShape τ) (ps .next)
     readEnd (ls .next)
-    judgeLines n s (ls .next .offset) (ls .all)
+    judgeLines τ n s (ls .next .offset) (ls .all)
 
-  behind-head : (n s : ℕ) → behindHead n s (cursor f headSize) ≡ (bodyTests f n >> judgeLines n s (linesEnd n) (linesAt f (lineCount n) (linesFrom n)))
+  behind-head : (n s : ℕ) → behindHead n s (cursor f headSize) ≡ (bodyTests τ f n >> judgeLines τ n s (linesEnd τ n) (linesAt τ f (lineCount n) (linesFrom n)))
   unfolding bodyTests
   behind-head n s =
       let points = recordTests f placeMark 2 n headSize in
-      let lines = recordTests f lineMark 5 (lineCount n) (linesFrom n) in
-      ap (λ (t : Result Several). t >>= λ ps. several (3 * n - 6) lineShape (ps .next) >>= λ ls. readEnd (ls .next) >> judgeLines n s (ls .next .offset) (ls .all)) (several-is f placeMark 2 n headSize) ∙
+      let lines = recordTests f lineMark (lineNumbers τ) (lineCount n) (linesFrom n) in
+      ap (λ (t : Result Several). t >>= λ ps. several (3 * n - 6) (lineShape τ) (ps .next) >>= λ ls. readEnd (ls .next) >> judgeLines τ n s (ls .next .offset) (ls .all)) (several-is f placeMark 2 n headSize) ∙
       then-value points _ _ _
-      (ap (λ (t : Result Several). t >>= λ ls. readEnd (ls .next) >> judgeLines n s (ls .next .offset) (ls .all)) (several-is f lineMark 5 (lineCount n) (linesFrom n)) ∙
+      (ap (λ (t : Result Several). t >>= λ ls. readEnd (ls .next) >> judgeLines τ n s (ls .next .offset) (ls .all)) (several-is f lineMark (lineNumbers τ) (lineCount n) (linesFrom n)) ∙
       then-value lines _ _ _ refl) ∙
       simp then-then
 
@@ -45,17 +47,17 @@ module _ (f : List ℕ) where
   numbers : headSize ≤ length f → (getD (recordAt f 4 0 .words) 0 0 ≡ nIn f) × (getD (recordAt f 4 0 .words) 1 0 ≡ sIn f)
   numbers h = (words-in f 4 2 h 0 (omega arith), words-in f 4 2 h 1 (omega arith))
 
-  by-mark : (t : Result (Unit {0})) → recordTest f drawingMark 4 0 ≡ t →
+  by-mark : (t : Result (Unit {0})) → recordTest f (drawingMark τ) 4 0 ≡ t →
       ((t >> good (recordAt f 4 0)) >>= λ g. behindMark (getD (g .words) 0 0) (getD (g .words) 1 0) (g .next)) ≡ (t >> behindMark (nIn f) (sIn f) (cursor f headSize))
-  by-mark (good u) q = let z = numbers (record-there f drawingMark 4 0 q) in ap₂ (λ (n s : ℕ). behindMark n s (cursor f headSize)) (z .0) (z .1)
+  by-mark (good u) q = let z = numbers (record-there f (drawingMark τ) 4 0 q) in ap₂ (λ (n s : ℕ). behindMark n s (cursor f headSize)) (z .0) (z .1)
   by-mark (refused r p) q = refl
 
-  pub judge-is : judgeDrawing f ≡ (headTests f >> (bodyTests f (nIn f) >> judgeLines (nIn f) (sIn f) (linesEnd (nIn f)) (linesAt f (lineCount (nIn f)) (linesFrom (nIn f)))))
+  pub judge-is : judgeDrawing τ f ≡ (headTests τ f >> (bodyTests τ f (nIn f) >> judgeLines τ (nIn f) (sIn f) (linesEnd τ (nIn f)) (linesAt τ f (lineCount (nIn f)) (linesFrom (nIn f)))))
   unfolding judgeDrawing headTests recordTests
   judge-is =
-      let head = recordTest f drawingMark 4 0 in
+      let head = recordTest f (drawingMark τ) 4 0 in
       let range = refuseIf (not (between 3 1024 (nIn f) && between 1 8 (sIn f))) OutOfRange 0 in
-      ap (λ (t : Result Found). t >>= λ g. behindMark (getD (g .words) 0 0) (getD (g .words) 1 0) (g .next)) (record-is f drawingMark 4 0) ∙
+      ap (λ (t : Result Found). t >>= λ g. behindMark (getD (g .words) 0 0) (getD (g .words) 1 0) (g .next)) (record-is f (drawingMark τ) 4 0) ∙
       by-mark head refl ∙
       ap (λ (t : Result Drawing). head >> (range >> t)) (behind-head (nIn f) (sIn f)) ∙
       simp (then-then, then-good)

@@ -4,6 +4,7 @@ use mathlib.Core.Path.{_≡_}
 use mathlib.Core.List.{List, map}
 use lib.ListN.{take}
 use lib.Dec.{ltb}
+use Rattle.rules.specs.declared.Style.{Style}
 use Rattle.rules.specs.declared.Entry.{Entry}
 use Rattle.rules.specs.Basics.{if_then_else_}
 use Rattle.rules.specs.Entries.{wordOf, pointLimit}
@@ -16,7 +17,7 @@ abbrev pub numberFor : Entry → ℕ
 numberFor e = if ltb (e .point) pointLimit then wordOf e else 0
 
 -- the group of point p among the `left` lines from `at` on has c lines, whose entries begin the list e
-pub record Taken (f : List ℕ) (at left p : ℕ) (e : List ℕ) (c : ℕ) : Type 0 where
+pub record Taken (τ : Style) (f : List ℕ) (at left p : ℕ) (e : List ℕ) (c : ℕ) : Type 0 where
   pub few : c ≤ left
-  pub entries : take c e ≡ map numberFor (group p (linesAt f left at))
-  pub rest : behind p (linesAt f left at) ≡ linesAt f (left - c) (at + lineSize * c)
+  pub entries : take c e ≡ map numberFor (group τ p (linesAt τ f left at))
+  pub rest : behind p (linesAt τ f left at) ≡ linesAt τ f (left - c) (at + lineSize τ * c)

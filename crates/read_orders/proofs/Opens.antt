@@ -2,6 +2,7 @@
 use Prim.Native.Nat.{ℕ, _-_}
 use mathlib.Core.Path.{_≡_, sym, subst}
 use mathlib.Core.List.{List, [], _∷_}
+use Rattle.rules.specs.declared.Style.{Style}
 use Rattle.rules.specs.declared.Refusal.{Refusal}
 use Rattle.rules.specs.declared.Answer.the-variants.{Refused}
 use Rattle.rules.specs.Refusals.{Result}
@@ -32,14 +33,14 @@ entry-is : (w p : ℕ) → pointIn w ≡ p → entryOf w ≡ record { point = p;
 entry-is w p h = λ i. record { point = h i; kind = entryOf w .kind }
 
 -- the drawing that their entries begin
-abbrev begin : ℕ → ℕ → ℕ → ℕ → ℕ → Drawing
-begin n s a b c = startWith n s (entryOf a ∷ []) (entryOf b ∷ entryOf c ∷ [])
+abbrev begin : Style → ℕ → ℕ → ℕ → ℕ → ℕ → Drawing
+begin τ n s a b c = startWith τ n s (entryOf a ∷ []) (entryOf b ∷ entryOf c ∷ [])
 
-module _ {f : List ℕ} {at n : ℕ} {t : List ℕ} (z : Headed f at n t) (s : ℕ) where
+module _ {f : List ℕ} {at n : ℕ} {t : List ℕ} (z : Headed f at n t) (τ : Style) (s : ℕ) where
   -- points 1 to 3 are refused
   pub start-refused : (o : Start) → StartRead f (pointsFrom (cursor f at)) o → (r : Refusal) (p : ℕ) → o ≡ start.Refused r p → (v : Added) → v .answer ≡ Refused r p → (x : Arrays) →
-      Gave (readPoints n s (cursor f at)) x v
-  start-refused o h r p q v w x = gave-refused _ x v r p (subst (StartRead f (pointsFrom (cursor f at))) q h n s) w
+      Gave (readPoints τ n s (cursor f at)) x v
+  start-refused o h r p q v w x = gave-refused _ x v r p (subst (StartRead f (pointsFrom (cursor f at))) q h τ n s) w
 
   -- they are there
   module _ (a b c next : ℕ) (o : Start) (h : StartRead f (pointsFrom (cursor f at)) o) (q : o ≡ start.Given a b c next) where
@@ -47,33 +48,33 @@ module _ {f : List ℕ} {at n : ℕ} {t : List ℕ} (z : Headed f at n t) (s : �
     begun = subst (StartRead f (pointsFrom (cursor f at))) q h
 
     -- the arrays and the numbers as opened
-    module _ (x : Arrays) (k : Counts) (opened : (x ≡ openArrays a b c) × (k ≡ openCounts n s)) where
-      held : Holds (begin n s a b c) x k
+    module _ (x : Arrays) (k : Counts) (opened : (x ≡ openArrays τ a b c) × (k ≡ openCounts τ n s)) where
+      held : Holds (begin τ n s a b c) x k
       held =
           rw (opened .0, opened .1)
           (record {
-            standing = standing-start n s (entryOf a .kind) (entryOf b .kind) (entryOf c .kind) (z .low) (z .high);
-            sized = sized-open n s (entryOf a .kind) (entryOf b .kind) (entryOf c .kind) a b c;
+            standing = standing-start τ n s (entryOf a .kind) (entryOf b .kind) (entryOf c .kind) (z .low) (z .high);
+            sized = sized-open τ n s (entryOf a .kind) (entryOf b .kind) (entryOf c .kind) a b c;
             stores =
-                stores-open n s (entryOf a .kind) (entryOf b .kind) (entryOf c .kind) a b c (entry-is a 1 (begun .first)) (entry-is b 1 (begun .second)) (entry-is c 2 (begun .third));
+                stores-open τ n s (entryOf a .kind) (entryOf b .kind) (entryOf c .kind) a b c (entry-is a 1 (begun .first)) (entry-is b 1 (begun .second)) (entry-is c 2 (begun .third));
           })
 
       -- the rest can be read, and gives all
       pub start-going : Going f next x k
-      start-going = record { ready = record { d = begin n s a b c; holds = held }; place = begun .room }
+      start-going = record { ready = record { d = begin τ n s a b c; holds = held }; place = begun .room }
 
-      pub start-gave : (y : Arrays) (v : Added) → RestRead f next (n - 3) x k y v → Gave (readPoints n s (cursor f at)) y v
-      start-gave y v g = subst (λ (o : Result Drawing). Gave o y v) (sym (begun .rest n s)) (g (begin n s a b c) held)
+      pub start-gave : (y : Arrays) (v : Added) → RestRead f next (n - 3) x k y v → Gave (readPoints τ n s (cursor f at)) y v
+      start-gave y v g = subst (λ (o : Result Drawing). Gave o y v) (sym (begun .rest τ n s)) (g (begin τ n s a b c) held)
 
 -- ---- behind the header
 
-module _ (f : List ℕ) (o : Head) (h : HeadRead f o) where
-  pub head-refused : (r : Refusal) (p : ℕ) → o ≡ head.Refused r p → (v : Added) → v .answer ≡ Refused r p → (x : Arrays) → Gave (readOrder f) x v
-  head-refused r p q v w x = gave-refused _ x v r p (subst (HeadRead f) q h) w
+module _ (τ : Style) (f : List ℕ) (o : Head) (h : HeadRead f o) where
+  pub head-refused : (r : Refusal) (p : ℕ) → o ≡ head.Refused r p → (v : Added) → v .answer ≡ Refused r p → (x : Arrays) → Gave (readOrder τ f) x v
+  head-refused r p q v w x = gave-refused _ x v r p (subst (HeadRead f) q h τ) w
 
   module _ (n s at : ℕ) (q : o ≡ head.Given n s at) where
     pub head-going : (t : List ℕ) → t ≡ zeros → Headed f at n t
     head-going t b = let y : HeadRead f (head.Given n s at) = subst (HeadRead f) q h in record { blank = b; place = y .2; low = y .0; high = y .1 }
 
-    pub head-gave : (x : Arrays) (v : Added) → Gave (readPoints n s (cursor f at)) x v → Gave (readOrder f) x v
-    head-gave x v g = let t : HeadRead f (head.Given n s at) = subst (HeadRead f) q h in subst (λ (o : Result Drawing). Gave o x v) (sym (t .3)) g
+    pub head-gave : (x : Arrays) (v : Added) → Gave (readPoints τ n s (cursor f at)) x v → Gave (readOrder τ f) x v
+    head-gave x v g = let t : HeadRead f (head.Given n s at) = subst (HeadRead f) q h in subst (λ (o : Result Drawing). Gave o x v) (sym (t .3 τ)) g

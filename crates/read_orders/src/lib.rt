@@ -10,6 +10,7 @@ use read_start::read_first;
 use read_start::read_head;
 use rules::Answer;
 use rules::Refusal;
+use rules::Style;
 use store_links::Added;
 use store_links::Counts;
 use store_tables::POINTS;
@@ -92,9 +93,9 @@ fn read_rest(f: &[u8], at: usize, points: usize, table: &mut Table, c: Counts) -
 }
 
 // Points 1 to n, behind the header of a file with n points and the scale s.
-fn read_points(f: &[u8], at: usize, n: usize, s: usize, table: &mut Table) -> Added
+fn read_points(f: &[u8], at: usize, style: Style, n: usize, s: usize, table: &mut Table) -> Added
     requires { ⌜ Headed (now f) at n (now table) ⌝ }
-    ensures { λ r. ⌜ Gave (readPoints n s (cursor (now (f .entry)) at)) (arraysIn (now (table .exit))) r ⌝ }
+    ensures { λ r. ⌜ Gave (readPoints style n s (cursor (now (f .entry)) at)) (arraysIn (now (table .exit))) r ⌝ }
 {
     match read_first(f, at) {
         Start::Refused(r, p) => refuse(r, p),
@@ -104,20 +105,20 @@ fn read_points(f: &[u8], at: usize, n: usize, s: usize, table: &mut Table) -> Ad
             c,
             at: behind,
         } => {
-            let counts = store_points::open_in(table, n, s, a, b, c);
+            let counts = store_points::open_in(table, style, n, s, a, b, c);
             let points = n - 3;
             read_rest(f, behind, points, table, counts)
         }
     }
 }
 
-// Reads an order file into a table of zeros. After a refusal it holds anything: throw it away.
-pub fn read_order(f: &[u8], table: &mut Table) -> Added
+// Reads an order file into a table of zeros, as a drawing of this style. After a refusal it holds anything: throw it away.
+pub fn read_order(f: &[u8], style: Style, table: &mut Table) -> Added
     requires { ⌜ now table ≡ zeros ⌝ }
-    ensures { λ r. ⌜ Gave (readOrder (now (f .entry))) (arraysIn (now (table .exit))) r ⌝ }
+    ensures { λ r. ⌜ Gave (readOrder style (now (f .entry))) (arraysIn (now (table .exit))) r ⌝ }
 {
     match read_head(f) {
         Head::Refused(r, p) => refuse(r, p),
-        Head::Given { n, s, at } => read_points(f, at, n, s, table),
+        Head::Given { n, s, at } => read_points(f, at, style, n, s, table),
     }
 }

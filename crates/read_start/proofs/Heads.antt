@@ -6,6 +6,7 @@ use mathlib.Core.List.{List, [], _∷_}
 use native.Mathlib.Omega.{arith}
 use lib.ListN.{length}
 use borrow.Author.Tests.{eq-eqb, ne-eqb}
+use Rattle.rules.specs.declared.Style.{Style}
 use Rattle.rules.specs.declared.Refusal.{Refusal}
 use Rattle.rules.specs.declared.Refusal.the-variants.{OutOfRange}
 use Rattle.rules.specs.Basics.{between}
@@ -49,22 +50,22 @@ module _ (f : List ℕ) where
 
   -- ---- the header
 
-  pub bad-head : (r : Refusal) (p : ℕ) → readRecord orderHead (cursor f 0) ≡ refused r p → readOrder f ≡ refused r p
+  pub bad-head : (r : Refusal) (p : ℕ) → readRecord orderHead (cursor f 0) ≡ refused r p → (τ : Style) → readOrder τ f ≡ refused r p
   unfolding readOrder
-  bad-head r p e = rw e
+  bad-head r p e τ = rw e
 
   module _ (n : ℕ) (e : readRecord orderHead (cursor f 0) ≡ found f 0 (n ∷ []) 4) where
-    pub head-out : between 3 1024 n ≡ false → readOrder f ≡ refused OutOfRange 0
+    pub head-out : between 3 1024 n ≡ false → (τ : Style) → readOrder τ f ≡ refused OutOfRange 0
     unfolding readOrder
-    head-out b = rw (e, b)
+    head-out b τ = rw (e, b)
 
-    head-in : between 3 1024 n ≡ true → readOrder f ≡ (readScale (cursor f 4) >>= λ c. readPoints n (c .s) (c .next))
+    head-in : between 3 1024 n ≡ true → (τ : Style) → readOrder τ f ≡ (readScale (cursor f 4) >>= λ c. readPoints τ n (c .s) (c .next))
     unfolding readOrder
-    head-in b = rw (e, b)
+    head-in b τ = rw (e, b)
 
     -- with the scale
     pub head-scale : (h : Head) → between 3 1024 n ≡ true → ScaleRead f n h → HeadRead f h
     head-scale (head.Given m s at) b t =
         let r = in-range 3 1024 n b in
-        (omega (arith, t .0, r .0), omega (arith, t .0, r .1), t .1, head-in b ∙ rw (t .2, t .0))
-    head-scale (head.Refused r p) b t = head-in b ∙ rw t
+        (omega (arith, t .0, r .0), omega (arith, t .0, r .1), t .1, λ τ. head-in b τ ∙ rw (t .2, t .0))
+    head-scale (head.Refused r p) b t = λ τ. head-in b τ ∙ rw t

@@ -6,6 +6,7 @@ use mathlib.Core.List.{List, [], _∷_, map}
 use native.Mathlib.Omega.{arith}
 use lib.ListN.{length, drop, length-map}
 use borrow.Author.Tests.{eq-eqb, ne-eqb}
+use Rattle.rules.specs.declared.Style.{Style}
 use Rattle.rules.specs.declared.Entry.{Entry}
 use Rattle.rules.specs.declared.Refusal.{Refusal}
 use Rattle.rules.specs.declared.Refusal.the-variants.{BothMarks, OtherStart}
@@ -31,15 +32,15 @@ other-count : (ws wanted : List ℕ) → (length ws ≡ length wanted → ⊥) �
 other-count ws wanted n = other-length (pointsRead (map readEntry ws)) wanted (λ q. n (sym (length-map (map readEntry ws) pointRead ∙ length-map ws readEntry) ∙ q))
 
 -- the record is refused
-module _ (f : List ℕ) (at : ℕ) (r : Refusal) (p : ℕ) (h : readRecord pointEntries (cursor f at) ≡ refused r p) (n s : ℕ) where
-  pub first-bad : pointsFrom (cursor f at) n s ≡ refused r p
+module _ (f : List ℕ) (at : ℕ) (r : Refusal) (p : ℕ) (h : readRecord pointEntries (cursor f at) ≡ refused r p) (τ : Style) (n s : ℕ) where
+  pub first-bad : pointsFrom (cursor f at) τ n s ≡ refused r p
   unfolding readPoints
   first-bad = rw h
 
-  pub second-bad : secondFrom (cursor f at) n s ≡ refused r p
+  pub second-bad : secondFrom (cursor f at) τ n s ≡ refused r p
   second-bad = rw h
 
-  pub third-bad : (second : List Entry) → thirdFrom second (cursor f at) n s ≡ refused r p
+  pub third-bad : (second : List Entry) → thirdFrom second (cursor f at) τ n s ≡ refused r p
   third-bad second = rw h
 
 module _ {f : List ℕ} {at c from next : ℕ} (g : Got f at c from next) where
@@ -47,31 +48,31 @@ module _ {f : List ℕ} {at c from next : ℕ} (g : Got f at c from next) where
   wrong-count wanted n = other-count (wordsIn c (drop from f)) wanted (λ q. n (sym (words-count f from c (omega (arith, g .room, g .behind))) ∙ q))
 
   -- ---- point 1
-  pub first-count : (c ≡ 0 → ⊥) → (n s : ℕ) → pointsFrom (cursor f at) n s ≡ refused OtherStart at
+  pub first-count : (c ≡ 0 → ⊥) → (τ : Style) (n s : ℕ) → pointsFrom (cursor f at) τ n s ≡ refused OtherStart at
   unfolding readPoints
-  first-count w n s = rw (g .is, wrong-count [] w)
+  first-count w τ n s = rw (g .is, wrong-count [] w)
 
   -- ---- point 2, and point 3
   module _ (b : anyOf isBoth (map readEntry (wordsIn c (drop from f))) ≡ true) where
-    pub second-both : (n s : ℕ) → secondFrom (cursor f at) n s ≡ refused BothMarks at
-    second-both n s = rw (g .is, b)
+    pub second-both : (τ : Style) (n s : ℕ) → secondFrom (cursor f at) τ n s ≡ refused BothMarks at
+    second-both τ n s = rw (g .is, b)
 
-    pub third-both : (second : List Entry) (n s : ℕ) → thirdFrom second (cursor f at) n s ≡ refused BothMarks at
-    third-both second n s = rw (g .is, b)
+    pub third-both : (second : List Entry) (τ : Style) (n s : ℕ) → thirdFrom second (cursor f at) τ n s ≡ refused BothMarks at
+    third-both second τ n s = rw (g .is, b)
 
   module _ (o : anyOf isBoth (map readEntry (wordsIn c (drop from f))) ≡ false) where
-    pub second-count : (c ≡ 1 → ⊥) → (n s : ℕ) → secondFrom (cursor f at) n s ≡ refused OtherStart at
-    second-count w n s = rw (g .is, o, wrong-count (1 ∷ []) w)
+    pub second-count : (c ≡ 1 → ⊥) → (τ : Style) (n s : ℕ) → secondFrom (cursor f at) τ n s ≡ refused OtherStart at
+    second-count w τ n s = rw (g .is, o, wrong-count (1 ∷ []) w)
 
-    pub third-count : (c ≡ 2 → ⊥) → (second : List Entry) (n s : ℕ) → thirdFrom second (cursor f at) n s ≡ refused OtherStart at
-    third-count w second n s = rw (g .is, o, wrong-count (1 ∷ 2 ∷ []) w)
+    pub third-count : (c ≡ 2 → ⊥) → (second : List Entry) (τ : Style) (n s : ℕ) → thirdFrom second (cursor f at) τ n s ≡ refused OtherStart at
+    third-count w second τ n s = rw (g .is, o, wrong-count (1 ∷ 2 ∷ []) w)
 
 -- point 1's record has no entry
 module _ {f : List ℕ} {at from next : ℕ} (g : Got f at 0 from next) where
   pub first-in : (o : Start) → StartRead f (secondFrom (cursor f next)) o → StartRead f (pointsFrom (cursor f at)) o
   unfolding readPoints
-  first-in (start.Given a b c o) h = record { room = h .room; first = h .first; second = h .second; third = h .third; rest = λ n s. rw (g .is) (h .rest n s) }
-  first-in (start.Refused r p) h = λ n s. rw (g .is) (h n s)
+  first-in (start.Given a b c o) h = record { room = h .room; first = h .first; second = h .second; third = h .third; rest = λ τ n s. rw (g .is) (h .rest τ n s) }
+  first-in (start.Refused r p) h = λ τ n s. rw (g .is) (h τ n s)
 
 -- point 2's record has one, a
 module _ {f : List ℕ} {at from next : ℕ} (g : Got f at 1 from next) (o : anyOf isBoth (map readEntry (wordsIn 1 (drop from f))) ≡ false) {a : ℕ} (is-a : a ≡ wordAt f from) where
@@ -81,15 +82,15 @@ module _ {f : List ℕ} {at from next : ℕ} (g : Got f at 1 from next) (o : any
   given : readEntry a ≡ Given (entryOf a)
   given = entry-read a (neither (isBoth (readEntry a)) false (rw one at o) .0)
 
-  pub second-other : (pointIn a ≡ 1 → ⊥) → (n s : ℕ) → secondFrom (cursor f at) n s ≡ refused OtherStart at
-  second-other w n s = rw (g .is, one, given, ne-eqb (pointIn a) 1 w)
+  pub second-other : (pointIn a ≡ 1 → ⊥) → (τ : Style) (n s : ℕ) → secondFrom (cursor f at) τ n s ≡ refused OtherStart at
+  second-other w τ n s = rw (g .is, one, given, ne-eqb (pointIn a) 1 w)
 
-  second-by : pointIn a ≡ 1 → (n s : ℕ) → secondFrom (cursor f at) n s ≡ thirdFrom (entryOf a ∷ []) (cursor f next) n s
-  second-by w n s = rw (g .is, one, given, eq-eqb (pointIn a) 1 w)
+  second-by : pointIn a ≡ 1 → (τ : Style) (n s : ℕ) → secondFrom (cursor f at) τ n s ≡ thirdFrom (entryOf a ∷ []) (cursor f next) τ n s
+  second-by w τ n s = rw (g .is, one, given, eq-eqb (pointIn a) 1 w)
 
   pub second-in : pointIn a ≡ 1 → (o : Start) → StartRead f (thirdFrom (entryOf a ∷ []) (cursor f next)) o → StartRead f (secondFrom (cursor f at)) o
-  second-in w (start.Given x b c o) h = record { room = h .room; first = h .first; second = h .second; third = h .third; rest = λ n s. second-by w n s ∙ h .rest n s }
-  second-in w (start.Refused r p) h = λ n s. second-by w n s ∙ h n s
+  second-in w (start.Given x b c o) h = record { room = h .room; first = h .first; second = h .second; third = h .third; rest = λ τ n s. second-by w τ n s ∙ h .rest τ n s }
+  second-in w (start.Refused r p) h = λ τ n s. second-by w τ n s ∙ h τ n s
 
 -- point 3's record has two, b and c
 module _ {f : List ℕ} {at from next : ℕ} (g : Got f at 2 from next) (o : anyOf isBoth (map readEntry (wordsIn 2 (drop from f))) ≡ false) {b c : ℕ} (is-b : b ≡ wordAt f from) (is-c : c ≡ wordAt f (from + 2)) where
@@ -105,12 +106,12 @@ module _ {f : List ℕ} {at from next : ℕ} (g : Got f at 2 from next) (o : any
   given-c : readEntry c ≡ Given (entryOf c)
   given-c = entry-read c (neither (isBoth (readEntry c)) false (neither-both .1) .0)
 
-  pub third-first : (pointIn b ≡ 1 → ⊥) → (second : List Entry) (n s : ℕ) → thirdFrom second (cursor f at) n s ≡ refused OtherStart at
-  third-first w second n s = rw (g .is, two, given-b, given-c, ne-eqb (pointIn b) 1 w)
+  pub third-first : (pointIn b ≡ 1 → ⊥) → (second : List Entry) (τ : Style) (n s : ℕ) → thirdFrom second (cursor f at) τ n s ≡ refused OtherStart at
+  third-first w second τ n s = rw (g .is, two, given-b, given-c, ne-eqb (pointIn b) 1 w)
 
   module _ (w : pointIn b ≡ 1) where
-    pub third-second : (pointIn c ≡ 2 → ⊥) → (second : List Entry) (n s : ℕ) → thirdFrom second (cursor f at) n s ≡ refused OtherStart at
-    third-second v second n s = rw (g .is, two, given-b, given-c, eq-eqb (pointIn b) 1 w, ne-eqb (pointIn c) 2 v)
+    pub third-second : (pointIn c ≡ 2 → ⊥) → (second : List Entry) (τ : Style) (n s : ℕ) → thirdFrom second (cursor f at) τ n s ≡ refused OtherStart at
+    third-second v second τ n s = rw (g .is, two, given-b, given-c, eq-eqb (pointIn b) 1 w, ne-eqb (pointIn c) 2 v)
 
     pub third-in : (a : ℕ) → pointIn a ≡ 1 → pointIn c ≡ 2 → Begun f (thirdFrom (entryOf a ∷ []) (cursor f at)) a b c next
-    third-in a h v = record { room = g .room; first = h; second = w; third = v; rest = λ n s. rw (g .is, two, given-b, given-c, eq-eqb (pointIn b) 1 w, eq-eqb (pointIn c) 2 v) }
+    third-in a h v = record { room = g .room; first = h; second = w; third = v; rest = λ τ n s. rw (g .is, two, given-b, given-c, eq-eqb (pointIn b) 1 w, eq-eqb (pointIn c) 2 v) }

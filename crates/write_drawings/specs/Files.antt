@@ -5,7 +5,10 @@ use mathlib.Core.List.{List, [], _∷_, _++_, append-assoc, append-nil}
 use native.Mathlib.Omega.{arith}
 use lib.ListN.{length, getD, take, length-append}
 use lib.Seq.{getD-take}
+use Rattle.rules.specs.declared.Style.{Style}
+use Rattle.rules.specs.declared.Style.the-variants.{OneBend, Straight}
 use Rattle.rules.specs.declared.Line.{Line}
+use Rattle.rules.specs.declared.Place.{Place}
 use Rattle.rules.specs.Points.{Drawing, lineAt}
 use Rattle.rules.specs.Ports.{bendPlace}
 use Rattle.rules.specs.Records.{written, pointPlace, lineShape, endShape, headSize, placeSize, lineSize}
@@ -45,7 +48,12 @@ points-are s (x ∷ xs) (y ∷ ys) h =
 
 -- the record of a line of the drawing
 abbrev lineRecord : Drawing → Line → List ℕ
-lineRecord d l = written lineShape (lineWords (d .s) l (bendPlace d l))
+lineRecord d l = written (lineShape (d .style)) (lineWords (d .style) (d .s) l (bendPlace d l))
+
+-- A line's record has its size.
+pub length-line : (τ : Style) (s : ℕ) (l : Line) (b : Place) → length (written (lineShape τ) (lineWords τ s l b)) ≡ lineSize τ
+length-line OneBend s l b = refl
+length-line Straight s l b = refl
 
 -- The line records are those of the lines.
 lines-are : (d : Drawing) (ls : List Line) (z : Line) → writeLines d ls ≡ several (λ e. lineRecord d (getD ls e z)) (length ls)
@@ -57,14 +65,14 @@ lines-are d (l ∷ ls) z =
 -- ---- the length of the file
 
 -- Of any drawing from opening and calls.
-pub length-file : {d : Drawing} → Standing d → length (drawingBytes d) ≡ headSize + placeSize * d .k + lineSize * length (d .lines) + 2
+pub length-file : {d : Drawing} → Standing d → length (drawingBytes d) ≡ headSize + placeSize * d .k + lineSize (d .style) * length (d .lines) + 2
 unfolding drawingBytes
 length-file {d} t =
     let z = t .sound .sized in
     let p = writePoints (d .s) (d .xs) (d .ys) in
     let l = writeLines d (d .lines) in
     let lp : length p ≡ placeSize * length (d .xs) = ap length (points-are (d .s) (d .xs) (d .ys) (z .xs ∙ sym (z .ys))) ∙ length-several (pointBytes (d .s) (d .xs) (d .ys)) placeSize (λ i. refl) (length (d .xs)) in
-    let ll : length l ≡ lineSize * length (d .lines) = ap length (lines-are d (d .lines) _) ∙ length-several (λ e. lineRecord d (lineAt d e)) lineSize (λ e. refl) (length (d .lines)) in
+    let ll : length l ≡ lineSize (d .style) * length (d .lines) = ap length (lines-are d (d .lines) _) ∙ length-several (λ e. lineRecord d (lineAt d e)) (lineSize (d .style)) (λ e. length-line (d .style) (d .s) (lineAt d e) (bendPlace d (lineAt d e))) (length (d .lines)) in
     omega (arith, length-append p (l ++ written endShape []), length-append l (written endShape []), z .xs)
 
 -- ---- the arrays of a finished drawing
@@ -91,11 +99,11 @@ module _ {d : Drawing} {x : List ℕ} {a : Arrays} {c : Counts} (h : Finished d 
         let p = Lines.ends (h .holds .standing) e el in
         bend-right shows (lineAt d e .later) (lineAt d e .earlier) (p .0) (p .1) (p .2) (p .3) (lineAt d e .bend)
 
-    record-is : lineBytes (d .s) x a e ≡ lineRecord d (lineAt d e)
+    record-is : lineBytes (d .style) (d .s) x a e ≡ lineRecord d (lineAt d e)
     unfolding lineBytes
     record-is =
-        ap (λ (l : Line). written lineShape (lineWords (d .s) l (bendAt x a l))) line-is ∙
-        ap (λ b. written lineShape (lineWords (d .s) (lineAt d e) b)) bend-is
+        ap (λ (l : Line). written (lineShape (d .style)) (lineWords (d .style) (d .s) l (bendAt x a l))) line-is ∙
+        ap (λ b. written (lineShape (d .style)) (lineWords (d .style) (d .s) (lineAt d e) b)) bend-is
 
   -- The file that the arrays give is the drawing's.
   pub file-is : fileBytes x a c ≡ drawingBytes d
@@ -107,6 +115,6 @@ module _ {d : Drawing} {x : List ℕ} {a : Arrays} {c : Counts} (h : Finished d 
       let p : several (pointBytes (d .s) x (a .ys)) (d .k) ≡ writePoints (d .s) (d .xs) (d .ys) =
       several-same (pointBytes (d .s) x (a .ys)) (pointBytes (d .s) (d .xs) (d .ys)) (d .k) (λ i b. rw (x-is i b, y-is i b)) ∙
       ap (several (pointBytes (d .s) (d .xs) (d .ys))) (sym (z .xs)) ∙ sym (points-are (d .s) (d .xs) (d .ys) (z .xs ∙ sym (z .ys))) in
-      let l : several (lineBytes (d .s) x a) (length (d .lines)) ≡ writeLines d (d .lines) =
-      several-same (lineBytes (d .s) x a) (λ e. lineRecord d (lineAt d e)) (length (d .lines)) record-is ∙ sym (lines-are d (d .lines) _) in
-      rw (h .holds .stores .n, h .holds .stores .s, top, x-is 1 (omega arith), h .holds .stores .k, h .holds .stores .lines, p, l)
+      let l : several (lineBytes (d .style) (d .s) x a) (length (d .lines)) ≡ writeLines d (d .lines) =
+      several-same (lineBytes (d .style) (d .s) x a) (λ e. lineRecord d (lineAt d e)) (length (d .lines)) record-is ∙ sym (lines-are d (d .lines) _) in
+      rw (h .holds .stores .style, h .holds .stores .n, h .holds .stores .s, top, x-is 1 (omega arith), h .holds .stores .k, h .holds .stores .lines, p, l)

@@ -3,6 +3,7 @@ use Prim.Native.Nat.{ℕ, _+_, _*_, _<_, _≤_}
 use mathlib.Core.Path.{_≡_}
 use mathlib.Core.List.{List}
 use lib.ListN.{length, getD, take}
+use Rattle.rules.specs.declared.Style.{Style}
 use Rattle.rules.specs.declared.Line.{Line}
 use Rattle.rules.specs.Points.{Drawing}
 use Rattle.rules.specs.DrawingFile.{drawingBytes}
@@ -45,13 +46,13 @@ pub record LineFits (x : List ℕ) (a : Arrays) (s : ℕ) (l : Line) : Type 0 wh
   pub up : s * bendAt x a l .y < 65536
 
 -- line e is such a line, and its record has room at the place `at`
-pub record LineReady (x : List ℕ) (a : Arrays) (s e at : ℕ) (buffer : List ℕ) : Type 0 where
+pub record LineReady (τ : Style) (x : List ℕ) (a : Arrays) (s e at : ℕ) (buffer : List ℕ) : Type 0 where
   pub line : e < 3072
   pub fits : LineFits x a s (lineIn a e)
-  pub room : at + lineSize ≤ length buffer
+  pub room : at + lineSize τ ≤ length buffer
 
 -- so are the first `count` lines
-pub record LinesReady (x : List ℕ) (a : Arrays) (s count at : ℕ) (buffer : List ℕ) : Type 0 where
+pub record LinesReady (τ : Style) (x : List ℕ) (a : Arrays) (s count at : ℕ) (buffer : List ℕ) : Type 0 where
   pub few : count ≤ 3072
   pub fits : (e : ℕ) → e < count → LineFits x a s (lineIn a e)
-  pub room : at + lineSize * count ≤ length buffer
+  pub room : at + lineSize τ * count ≤ length buffer

@@ -1,12 +1,13 @@
 -- Every number of the file of a finished drawing fits 16 bits: places and lengths times s are at most 8 * 5,111.
 use Prim.Native.Nat.{ℕ, suc, _+_, _*_, _<_, _≤_}
 use mathlib.Core.Path.{_≡_, sym, ap, _∙_, subst}
-use mathlib.Core.List.{List, [], _∷_}
+use mathlib.Core.List.{List}
 use native.Mathlib.Nat.{mul-le-mul}
 use native.Mathlib.Omega.{arith}
 use lib.ListN.{length, getD, take}
 use Rattle.rules.specs.declared.Line.{Line}
 use Rattle.rules.specs.Points.{Drawing, W, lineAt}
+use Rattle.rules.specs.Lengths.{high-least}
 use Rattle.rules.specs.DrawingFile.{highest, drawingBytes}
 use Rattle.store_links.specs.declared.Counts.{Counts}
 use Rattle.store_links.specs.Arrays.{Arrays}
@@ -15,11 +16,6 @@ use Rattle.store_settling.specs.Bending.{bendable-of}
 use Rattle.rules.specs.Records.{headSize, placeSize, lineSize}
 use Rattle.write_drawings.specs.Finished.{Finished, Writable, PointsReady, LineFits, LinesReady}
 use Rattle.write_drawings.specs.Files.{length-file, shows, x-is, y-is, line-is, bend-is, file-is}
-
--- The largest of numbers up to b.
-highest-most : (ys : List ℕ) (b : ℕ) → ((i : ℕ) → i < length ys → getD ys i 0 ≤ b) → highest ys ≤ b
-highest-most [] b g = omega arith
-highest-most (y ∷ ys) b g = omega (arith, g 0 (omega arith), highest-most ys b (λ i k. g (suc i) (omega arith)))
 
 module _ {d : Drawing} {x : List ℕ} {a : Arrays} {c : Counts} (h : Finished d x a c) where
   -- A coordinate times s.
@@ -33,7 +29,7 @@ module _ {d : Drawing} {x : List ℕ} {a : Arrays} {c : Counts} (h : Finished d 
   place : (i : ℕ) → i < d .k → (getD (d .xs) i 0 ≤ 5111) × (getD (d .ys) i 0 ≤ 5111)
   place i b =
       let w = width-most d (h .holds .standing) in
-      let t : (getD (d .xs) i 0 ≤ W d) × (2 * getD (d .ys) i 0 + 2 ≤ W d) = place-most d (h .holds .standing) (suc i) (omega arith) (omega arith) in
+      let t : (getD (d .xs) i 0 ≤ W d) × (2 * getD (d .ys) i 0 ≤ W d) = place-most d (h .holds .standing) (suc i) (omega arith) (omega arith) in
       (omega arith, omega arith)
 
   few-points : c .k ≤ 1024
@@ -62,7 +58,7 @@ module _ {d : Drawing} {x : List ℕ} {a : Arrays} {c : Counts} (h : Finished d 
   pub height-fits : c .s * highest (take (c .k) (a .ys)) < 65536
   height-fits =
       let e : take (c .k) (a .ys) ≡ d .ys = ap (λ (n : ℕ). take n (a .ys)) (h .holds .stores .k) ∙ h .holds .stores .ys in
-      rw e (scaled (highest-most (d .ys) 5111 (λ i b. place i (omega (arith, h .holds .standing .sound .sized .ys)) .1)))
+      rw e (scaled (high-least (d .ys) 5111 (λ i b. place i (omega (arith, h .holds .standing .sound .sized .ys)) .1)))
 
   -- The bends of the lines.
   line-fits : (e : ℕ) → e < length (d .lines) → LineFits x a (c .s) (lineAt d e)
@@ -75,7 +71,7 @@ module _ {d : Drawing} {x : List ℕ} {a : Arrays} {c : Counts} (h : Finished d 
         up = rw (bend-is h e el) (scaled (omega (arith, t .1)));
       }
 
-  pub lines-ready : (at : ℕ) (buffer : List ℕ) → at + lineSize * c .lines ≤ length buffer → LinesReady x a (c .s) (c .lines) at buffer
+  pub lines-ready : (at : ℕ) (buffer : List ℕ) → at + lineSize (c .style) * c .lines ≤ length buffer → LinesReady (c .style) x a (c .s) (c .lines) at buffer
   lines-ready at buffer room =
       record {
         few = few-lines;
@@ -91,7 +87,7 @@ pub record Ready (x : List ℕ) (a : Arrays) (c : Counts) (buffer : List ℕ) : 
   pub width : c .s * getD x 1 0 < 65536
   pub height : c .s * highest (take (c .k) (a .ys)) < 65536
   pub few : (c .k ≤ 1024) × (c .lines ≤ 3072)
-  pub room : headSize + placeSize * c .k + lineSize * c .lines + 2 ≤ length buffer
+  pub room : headSize + placeSize * c .k + lineSize (c .style) * c .lines + 2 ≤ length buffer
 
 pub ready : {x : List ℕ} {a : Arrays} {c : Counts} {buffer : List ℕ} → Writable x a c buffer → Ready x a c buffer
 ready {x} {a} {c} {buffer} w =
@@ -100,7 +96,7 @@ ready {x} {a} {c} {buffer} w =
       width = x-fits h 1 (omega (arith, h .holds .stores .k, h .holds .standing .ranged .three));
       height = height-fits h;
       few = (few-points h, few-lines h);
-      room = omega (arith, length-file (h .holds .standing), h .holds .stores .k, h .holds .stores .lines, w .room);
+      room = rw (h .holds .stores .style, h .holds .stores .k, h .holds .stores .lines) (omega (arith, length-file (h .holds .standing), w .room));
     }
 
 -- The file of every finished drawing that is held so has room.

@@ -1,7 +1,8 @@
--- The drawing file as the settled x and the arrays give it: each record's bytes.
+-- The drawing file as the settled x and the arrays give it, in either style: each record's bytes.
 use Prim.Native.Nat.{ℕ, zero, suc, _*_}
 use mathlib.Core.List.{List, [], _∷_, _++_}
 use lib.ListN.{getD, take}
+use Rattle.rules.specs.declared.Style.{Style}
 use Rattle.rules.specs.declared.Line.{Line}
 use Rattle.rules.specs.declared.Place.{Place}
 use Rattle.rules.specs.Records.{written, drawingHead, pointPlace, lineShape, endShape}
@@ -25,12 +26,12 @@ abbrev pub bendAt : List ℕ → Arrays → Line → Place
 bendAt x a l = bendIn x a (l .later) (l .earlier) (l .bend)
 
 -- the record of line e
-unfoldable pub lineBytes : ℕ → List ℕ → Arrays → ℕ → List ℕ
-lineBytes s x a e = written lineShape (lineWords s (lineIn a e) (bendAt x a (lineIn a e)))
+unfoldable pub lineBytes : Style → ℕ → List ℕ → Arrays → ℕ → List ℕ
+lineBytes τ s x a e = written (lineShape τ) (lineWords τ s (lineIn a e) (bendAt x a (lineIn a e)))
 
 -- the whole file
 unfoldable pub fileBytes : List ℕ → Arrays → Counts → List ℕ
 fileBytes x a c =
-    written drawingHead (c .n ∷ c .s ∷ c .s * getD x 1 0 ∷ c .s * highest (take (c .k) (a .ys)) ∷ []) ++
+    written (drawingHead (c .style)) (c .n ∷ c .s ∷ c .s * getD x 1 0 ∷ c .s * highest (take (c .k) (a .ys)) ∷ []) ++
     (several (pointBytes (c .s) x (a .ys)) (c .k) ++
-    (several (lineBytes (c .s) x a) (c .lines) ++ written endShape []))
+    (several (lineBytes (c .style) (c .s) x a) (c .lines) ++ written endShape []))

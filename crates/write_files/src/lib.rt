@@ -2,27 +2,32 @@
 // For `panel` and `panel_asked`: it asks for the table of a drawing, a finished one where it does not test that.
 use answers::Written;
 use rules::Refusal;
+use rules::Style;
 use store_links::Counts;
 use store_tables::POINTS;
 use store_tables::Table;
 ghost use mathlib.Core.Path.{_≡_};
 ghost use Prim.Native.Nat.{_≤_};
 ghost use Rattle.rules.specs.Refusals.{good};
+ghost use Rattle.rules.specs.Styles.{drawingLength};
 ghost use Rattle.rules.specs.Points.{Drawing as Plan, fewestPoints, mostPoints};
 ghost use Rattle.rules.specs.OrderFile.{writeOrder};
-ghost use Rattle.rules.specs.DrawingFile.{drawingBytes, drawingLength, writeDrawing};
+ghost use Rattle.rules.specs.DrawingFile.{drawingBytes, writeDrawing};
 ghost use Rattle.store_tables.specs.Tables.{arraysIn};
 ghost use Rattle.store_laws.specs.Adding.{Holds};
 ghost use Rattle.exchange.specs.Built.{Reached, Whole};
 ghost use Rattle.write_files.specs.Outputs.{Wrote, Ended};
 ghost use Rattle.write_files.specs.Finishing.{wholeOrder, ReachedIn};
 
-// How many bytes the drawing file of n points has: "42n - 60".
-pub fn drawing_length(n: usize) -> usize
+// How many bytes the drawing file of n points has: "42n - 60", or 4 less for each line.
+pub fn drawing_length(style: Style, n: usize) -> usize
     requires { ⌜ (fewestPoints ≤ n) × (n ≤ mostPoints) ⌝ }
-    ensures { λ r. ⌜ r ≡ drawingLength n ⌝ }
+    ensures { λ r. ⌜ r ≡ drawingLength style n ⌝ }
 {
-    42 * n - 60
+    match style {
+        Style::OneBend => 42 * n - 60,
+        Style::Straight => 30 * n - 36,
+    }
 }
 
 // The drawing file of a finished drawing.
@@ -30,7 +35,8 @@ pub fn put_drawing(out: &mut [u8], table: &Table, c: Counts) -> Written
     requires { ⌜ Ended (arraysIn (now table)) c ⌝ }
     ensures { λ r. ⌜ ((d : Plan) → Whole d → Holds d (arraysIn (now (table .entry))) c → Wrote (now (out .entry)) (good (drawingBytes d)) (now (out .exit)) r) ⌝ }
 {
-    let need = drawing_length(c.n);
+    let style = c.style;
+    let need = drawing_length(style, c.n);
     if out.len() < need {
         return Written::Refused(Refusal::OutputShort, 0);
     }

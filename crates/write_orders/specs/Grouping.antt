@@ -9,9 +9,10 @@ use lib.ListN.{length, getD, length-map}
 use lib.Dec.{eqb}
 use borrow.Author.Tests.{eq-eqb, ne-eqb, eqb-true, eqb-false}
 use Rattle.rules.specs.declared.Line.{Line}
+use Rattle.rules.specs.declared.Style.{Style}
 use Rattle.rules.specs.declared.Entry.{Entry}
 use Rattle.rules.specs.declared.Bend.{Bend}
-use Rattle.rules.specs.declared.Bend.the-variants.{Straight}
+use Rattle.rules.specs.declared.Bend.the-variants.{NoBend}
 use Rattle.rules.specs.Basics.{if_then_else_, keep}
 use Rattle.rules.specs.declared.Kind.the-variants.{Guide}
 use Rattle.rules.specs.Entries.{wordOf}
@@ -46,7 +47,7 @@ rising-new p q bend i [] h = h
 rising-new p q bend i (e ∷ es) h = (h, rising-new q q bend (suc i) es (omega arith))
 
 -- the lines of every built drawing
-pub rising : {n s : ℕ} {second third : List Entry} {rest : List (List Entry)} {d : Drawing} → Built n s second third rest d → Rising 1 (d .k) (d .lines)
+pub rising : {τ : Style} {n s : ℕ} {second third : List Entry} {rest : List (List Entry)} {d : Drawing} → Built τ n s second third rest d → Rising 1 (d .k) (d .lines)
 rising (begun a b) = (omega arith, (omega arith, (omega arith, omega arith)))
 rising (added {d = d} {e = e} es b h) =
     let a = lengthened d e es h in
@@ -181,7 +182,7 @@ head-are n s rest = go (eqb s 1)
 pub order-is : {d : Drawing} {a : Arrays} {c : Counts} → Whole d → Stores d a c → bytesOf (orderWords (a .words) (a .later) c) ≡ writeOrder d
 unfolding writeOrder
 order-is {d} {a} {c} h t =
-    let stored : Kept (a .words) (a .later) 0 (d .lines) = kept (a .words) (a .later) 0 (d .lines) (record { later = 0; earlier = 0; bend = Straight; kind = Guide }) (λ i b. rw (zero-add i) (t .later i b)) (λ i b. rw (zero-add i) (t .entry i b)) in
+    let stored : Kept (a .words) (a .later) 0 (d .lines) = kept (a .words) (a .later) 0 (d .lines) (record { later = 0; earlier = 0; bend = NoBend; kind = Guide }) (λ i b. rw (zero-add i) (t .later i b)) (λ i b. rw (zero-add i) (t .entry i b)) in
     let up = from-rising 1 (d .k) (d .lines) (rising (h .reached .built)) in
     let points = pointsWords (a .words) (a .later) (c .lines) (c .n) 1 0 in
     let points-is : bytesOf points ≡ orderPoints (c .n) 1 (d .lines) =

@@ -1,9 +1,11 @@
 -- `panel::compare_drawing` meets its contract: the copy begins with the drawing's bytes.
 use mathlib.Core.Path.{refl, sym, ap, _∙_}
+use native.Mathlib.Omega.{arith}
 use lib.ListN.{length}
 use borrow.Author.Needs.{needs}
 use Rattle.rules.specs.Refusals.{answer}
 use Rattle.rules.specs.DrawingFile.{compareBytes}
+use Rattle.exchange.specs.Lengths.{length-most}
 use Rattle.write_files.specs.Files.{need-is, begins}
 use Rattle.panel.proofs.compare_drawing.Statement.{statement}
 use Rattle.panel.proofs.compare_drawing.Tie as tie
@@ -18,7 +20,10 @@ put-drawing-requires : tie.Need-put-drawing-requires
 put-drawing-requires c κs = search needs
 
 array-share-prefix-drawn : tie.Need-array-share-prefix-drawn
-array-share-prefix-drawn c = search needs
+array-share-prefix-drawn c =
+    let l = c .before .before .before in
+    let z = l .before .before in
+    search (needs, l .drawing-length .ensures, length-most (z .args .c .style) (z .args .c .n) (omega (arith, z .pre .holds .stores .n, z .pre .whole .reached .high)))
 
 slice-aggregate-compare : tie.Need-slice-aggregate-compare
 slice-aggregate-compare c =

@@ -15,10 +15,10 @@ enum-told : tie.Need-enum-told
 enum-told c = search needs
 
 put-drawing-requires : tie.Need-put-drawing-requires
-put-drawing-requires c κs = ended _ (c .before .before .before .before .before .read-order .ensures) (c .before .before .enum-told .given .1)
+put-drawing-requires c κs = ended _ _ (c .before .before .before .before .before .read-order .ensures) (c .before .before .enum-told .given .1)
 
 returns : tie.Need-returns
-returns c = (undrawn _ (c .before .before .before .before .read-order .ensures) _ _ _ (c .before .answer .given .1), read-keeps _)
+returns c = (undrawn _ _ (c .before .before .before .before .read-order .ensures) _ _ _ (c .before .answer .given .1), read-keeps _ _)
 
 same-length : tie.Need-same-length
 same-length c = search needs
@@ -27,7 +27,7 @@ returns-2 : tie.Need-returns-2
 returns-2 c =
     let f = c .before .before in
     let t = f .before .before .before in
-    (drawn _ (t .before .before .before .read-order .ensures) (t .enum-told .given .1) (f .put-drawing .ensures), read-keeps _)
+    (drawn _ _ (t .before .before .before .read-order .ensures) (t .enum-told .given .1) (f .put-drawing .ensures), read-keeps _ _)
 
 pub draw-spec : {M : Type 1} → statement M
 draw-spec =

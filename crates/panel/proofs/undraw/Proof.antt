@@ -24,7 +24,7 @@ compare-drawing-requires : tie.Need-compare-drawing-requires
 unfolding told
 compare-drawing-requires c κs =
     let t = told c in
-    lines-ended _ (t .before .before .before .read-lines .ensures) (t .enum-told .given .1)
+    lines-ended _ _ (t .before .before .before .read-lines .ensures) (t .enum-told .given .1)
 
 enum-known-same : tie.Need-enum-known-same
 enum-known-same c = search needs
@@ -36,11 +36,11 @@ put-order-requires : tie.Need-put-order-requires
 unfolding told
 put-order-requires c κs =
     let t = told (c .before .before .before .before .before) in
-    lines-ended _ (t .before .before .before .read-lines .ensures) (t .enum-told .given .1)
+    lines-ended _ _ (t .before .before .before .read-lines .ensures) (t .enum-told .given .1)
 
 returns : tie.Need-returns
 returns c =
-    (rw (lines-refused _ (c .before .before .before .before .read-lines .ensures) _ _ (c .before .answer .given .1)) (turned _ _ _), drawing-read-keeps _)
+    (rw (lines-refused _ _ (c .before .before .before .before .read-lines .ensures) _ _ (c .before .answer .given .1)) (turned _ _ _), drawing-read-keeps _ _)
 
 returns-2 : tie.Need-returns-2
 unfolding told
@@ -49,8 +49,8 @@ returns-2 c =
     let t = told (b .before) in
     let g = t .before .before .before .read-lines .ensures in
     let h = t .enum-told .given .1 in
-    let e = lines-ended _ g h in
-    (rw (bytes-differ _ g h _ _ (sym (b .compare-drawing .ensures (e .d) (e .whole) (e .holds)) ∙ c .before .same .given .1)) (turned _ _ _), drawing-read-keeps _)
+    let e = lines-ended _ _ g h in
+    (rw (bytes-differ _ _ g h _ _ (sym (b .compare-drawing .ensures (e .d) (e .whole) (e .holds)) ∙ c .before .same .given .1)) (turned _ _ _), drawing-read-keeps _ _)
 
 same-length : tie.Need-same-length
 same-length c = search needs
@@ -64,8 +64,8 @@ returns-3 c =
     let t = told (b .before) in
     let g = t .before .before .before .read-lines .ensures in
     let h = t .enum-told .given .1 in
-    let e = lines-ended _ g h in
-    (rw (bytes-same _ g h (sym (b .compare-drawing .ensures (e .d) (e .whole) (e .holds)) ∙ q .enum-told2 .given .1)) (p .put-order .ensures (e .d) (e .whole) (e .holds)), drawing-read-keeps _)
+    let e = lines-ended _ _ g h in
+    (rw (bytes-same _ _ g h (sym (b .compare-drawing .ensures (e .d) (e .whole) (e .holds)) ∙ q .enum-told2 .given .1)) (p .put-order .ensures (e .d) (e .whole) (e .holds)), drawing-read-keeps _ _)
 
 pub undraw-spec : {M : Type 1} → statement M
 undraw-spec =

@@ -25,7 +25,7 @@ returns c file began =
     let t = c .before .before in
     let d = t .before .before .before .before in
     let b = d .before .before .before .before .before in
-    t .finish .ensures _ _ (drawing-room _ _ (omega (arith, b .pre .2))) (draws file began (omega (arith, b .pre .0)) (d .draw .ensures .0))
+    t .finish .ensures _ _ (drawing-room _ _ _ (omega (arith, b .pre .2))) (draws _ file began (omega (arith, b .pre .0)) (d .draw .ensures .0))
 
 pub draw-page-spec : {M : Type 1} → statement M
 draw-page-spec =

@@ -25,7 +25,7 @@ returns c file began =
     let t = c .before .before in
     let d = t .before .before .before .before in
     let b = d .before .before .before .before .before in
-    t .finish .ensures _ _ (order-room _ _ (omega (arith, b .pre .2))) (undraws file began (omega (arith, b .pre .0)) (d .undraw .ensures .0))
+    t .finish .ensures _ _ (order-room _ _ _ (omega (arith, b .pre .2))) (undraws _ file began (omega (arith, b .pre .0)) (d .undraw .ensures .0))
 
 pub undraw-page-spec : {M : Type 1} → statement M
 undraw-page-spec =

@@ -13,14 +13,14 @@ use Rattle.read_drawings.proofs.add_groups.Statement.{statement}
 use Rattle.read_drawings.proofs.add_groups.Tie as tie
 
 abbrev Inv-loop : tie.InvT-loop
-Inv-loop f base total table₀ counts₀ e₀ table counts e =
-    (length e ≡ 3072) × ((d : Drawing) → Holds d (arraysIn table₀) counts₀ → Going f base total (restGroups f base total counts₀ d) (arraysIn table) counts)
+Inv-loop f τ base total table₀ counts₀ e₀ table counts e =
+    (length e ≡ 3072) × ((d : Drawing) → Holds d (arraysIn table₀) counts₀ → Going τ f base total (restGroups τ f base total counts₀ d) (arraysIn table) counts)
 
 abbrev μ-loop : tie.MeasureT-loop
-μ-loop f base total table₀ counts₀ e₀ table counts e = counts .n - counts .k
+μ-loop f τ base total table₀ counts₀ e₀ table counts e = counts .n - counts .k
 
 loop-holds : tie.Need-loop-holds Inv-loop μ-loop
-loop-holds c = (length-replicate {A = ℕ} 3072 0, λ d h. going-start _ _ _ _ _ d (c .before .pre .few) h)
+loop-holds c = (length-replicate {A = ℕ} 3072 0, λ d h. going-start _ _ _ _ _ _ d (c .before .pre .few) h)
 
 slice-aggregate-add-group : tie.Need-slice-aggregate-add-group Inv-loop μ-loop
 slice-aggregate-add-group c = sym (c .before .before .before .before .loop .inv .0)

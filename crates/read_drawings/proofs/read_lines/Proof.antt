@@ -25,7 +25,7 @@ returns c = let d = c .before in refused-early _ (d .before .before .judge-file 
 read-passed-requires : tie.Need-read-passed-requires
 read-passed-requires c κs =
     let d = c .before in
-    (file-passes _ (all-passed _ (sym (d .before .before .judge-file .ensures) ∙ d .enum-told .given .1)), d .before .before .before .before .pre)
+    (file-passes _ _ (all-passed _ (sym (d .before .before .judge-file .ensures) ∙ d .enum-told .given .1)), d .before .before .before .before .pre)
 
 returns-2 : tie.Need-returns-2
 returns-2 c = search needs

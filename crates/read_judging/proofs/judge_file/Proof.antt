@@ -14,7 +14,7 @@ use Rattle.read_judging.proofs.judge_file.Statement.{statement}
 use Rattle.read_judging.proofs.judge_file.Tie as tie
 
 -- once the header has passed
-head : (d : tie.After-enum-told) → answer (headTests (d .before .before .before .before .args .f .now)) ≡ Accepted
+head : (d : tie.After-enum-told) → let a = d .before .before .before .before .args in answer (headTests (a .style) (a .f .now)) ≡ Accepted
 head d = sym (d .before .before .judge-head .ensures) ∙ d .enum-told .given .1
 
 -- its n
@@ -22,15 +22,15 @@ n-is : (d : tie.After-broad) → d .broad .result ≡ nIn (d .before .before .be
 n-is d = d .broad .ensures ∙ d .before .word-at .ensures
 
 -- once the records have passed
-body : (d : tie.After-enum-told3) → let b = d .before .before .before in answer (bodyTests (b .before .before .before .before .before .before .args .f .now) (b .broad .result)) ≡ Accepted
+body : (d : tie.After-enum-told3) → let b = d .before .before .before in let a = b .before .before .before .before .before .before .args in answer (bodyTests (a .style) (a .f .now) (b .broad .result)) ≡ Accepted
 body d = sym (d .before .before .judge-body .ensures) ∙ d .enum-told3 .given .1
 
 -- what n and the length then are
 range : (d : tie.After-broad) → let f = d .before .before .before .before .before .before .args .f .now in (headSize ≤ length f) × (3 ≤ d .broad .result) × (d .broad .result ≤ 1024)
-range d = let t = head-tells _ (all-passed _ (head (d .before .before))) in (t .0, omega (arith, n-is d, t .1), omega (arith, n-is d, t .2))
+range d = let t = head-tells _ _ (all-passed _ (head (d .before .before))) in (t .0, omega (arith, n-is d, t .1), omega (arith, n-is d, t .2))
 
-there : (d : tie.After-enum-told3) → let b = d .before .before .before in linesEnd (b .broad .result) ≤ length (b .before .before .before .before .before .before .args .f .now)
-there d = body-tells _ _ (range (d .before .before .before) .0) (all-passed _ (body d))
+there : (d : tie.After-enum-told3) → let b = d .before .before .before in let a = b .before .before .before .before .before .before .args in linesEnd (a .style) (b .broad .result) ≤ length (a .f .now)
+there d = body-tells _ _ _ (range (d .before .before .before) .0) (all-passed _ (body d))
 
 judge-head-requires : tie.Need-judge-head-requires
 judge-head-requires c κs = search needs
@@ -44,10 +44,10 @@ enum-told-2 c = search needs
 returns : tie.Need-returns
 returns c =
     let t = c .before .before .judge-head .ensures in
-    t ∙ file-head _ _ _ (sym t ∙ c .enum-told2 .given .1)
+    t ∙ file-head _ _ _ _ (sym t ∙ c .enum-told2 .given .1)
 
 word-at-requires : tie.Need-word-at-requires
-word-at-requires c κs = omega (arith, head-tells _ (all-passed _ (head c)) .0)
+word-at-requires c κs = omega (arith, head-tells _ _ (all-passed _ (head c)) .0)
 
 broad-requires : tie.Need-broad-requires
 broad-requires c κs = search needs
@@ -65,7 +65,7 @@ returns-2 : tie.Need-returns-2
 returns-2 c =
     let t = c .before .before .judge-body .ensures in
     let b = c .before .before .before in
-    t ∙ file-body _ (head (b .before .before)) _ (n-is b) _ _ (sym t ∙ c .enum-told4 .given .1)
+    t ∙ file-body _ _ (head (b .before .before)) _ (n-is b) _ _ (sym t ∙ c .enum-told4 .given .1)
 
 mul-judge-start : tie.Need-mul-judge-start
 mul-judge-start c = search needs
@@ -86,7 +86,7 @@ returns-3 : tie.Need-returns-3
 returns-3 c =
     let d = c .before in
     let b = d .before .before .before in
-    c .judge-start .ensures ∙ file-start _ (head (b .before .before)) _ (n-is b) (body d)
+    c .judge-start .ensures ∙ file-start _ _ (head (b .before .before)) _ (n-is b) (body d)
 
 pub judge-file-spec : {M : Type 1} → statement M
 judge-file-spec =

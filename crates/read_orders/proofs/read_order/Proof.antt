@@ -20,7 +20,7 @@ abbrev before : tie.After-read-head → List ℕ
 before y = start y .args .table .now
 
 abbrev after : tie.After-read-points → Arrays
-after t = arraysIn (t .read-points .last .1 .1 .1 .1 .0)
+after t = arraysIn (t .read-points .last .1 .1 .1 .1 .1 .0)
 
 -- from there back to the header
 abbrev header : tie.After-known-told2 → tie.After-read-head
@@ -42,19 +42,19 @@ read-points-requires : tie.Need-read-points-requires
 read-points-requires c κs =
     let d = c .before in
     let y = header d in
-    head-going (file y) (y .read-head .result) (y .read-head .ensures) (d .before .n .given .0 .0) (d .before .n .given .0 .1 .0) (d .before .n .given .0 .1 .1 .0) (d .before .n .given .1) (before y) (start y .pre)
+    head-going (start y .args .style) (file y) (y .read-head .result) (y .read-head .ensures) (d .before .n .given .0 .0) (d .before .n .given .0 .1 .0) (d .before .n .given .0 .1 .1 .0) (d .before .n .given .1) (before y) (start y .pre)
 
 returns : tie.Need-returns
 returns c =
     let r = c .before .before in
     let y = r .before .before in
-    head-refused (file y) (y .read-head .result) (y .read-head .ensures) _ _ (r .r .given .1) (c .refuse .result) (c .refuse .ensures) (arraysIn (before y))
+    head-refused (start y .args .style) (file y) (y .read-head .result) (y .read-head .ensures) _ _ (r .r .given .1) (c .refuse .result) (c .refuse .ensures) (arraysIn (before y))
 
 returns-2 : tie.Need-returns-2
 returns-2 c =
     let d = c .before .before in
     let y = header d in
-    head-gave (file y) (y .read-head .result) (y .read-head .ensures) (d .before .n .given .0 .0) (d .before .n .given .0 .1 .0) (d .before .n .given .0 .1 .1 .0) (d .before .n .given .1) (after c) (c .read-points .result) (c .read-points .ensures)
+    head-gave (start y .args .style) (file y) (y .read-head .result) (y .read-head .ensures) (d .before .n .given .0 .0) (d .before .n .given .0 .1 .0) (d .before .n .given .0 .1 .1 .0) (d .before .n .given .1) (after c) (c .read-points .result) (c .read-points .ensures)
 
 pub read-order-spec : {M : Type 1} → statement M
 read-order-spec =

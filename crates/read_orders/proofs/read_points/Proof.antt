@@ -50,20 +50,20 @@ read-rest-requires c κs =
     let o = c .before in
     let d = begun o in
     let y = points d in
-    start-going (start y .pre) (start y .args .s) (d .before .a .given .0 .0) (d .before .a .given .0 .1 .0) (d .before .a .given .0 .1 .1 .0) (d .before .a .given .0 .1 .1 .1 .0) (y .read-first .result) (y .read-first .ensures) (d .before .a .given .1) (opened o) (o .open-in .result) (o .open-in .ensures)
+    start-going (start y .pre) (start y .args .style) (start y .args .s) (d .before .a .given .0 .0) (d .before .a .given .0 .1 .0) (d .before .a .given .0 .1 .1 .0) (d .before .a .given .0 .1 .1 .1 .0) (y .read-first .result) (y .read-first .ensures) (d .before .a .given .1) (opened o) (o .open-in .result) (o .open-in .ensures)
 
 returns : tie.Need-returns
 returns c =
     let r = c .before .before in
     let y = r .before .before in
-    start-refused (start y .pre) (start y .args .s) (y .read-first .result) (y .read-first .ensures) _ _ (r .r .given .1) (c .refuse .result) (c .refuse .ensures) (arrays y)
+    start-refused (start y .pre) (start y .args .style) (start y .args .s) (y .read-first .result) (y .read-first .ensures) _ _ (r .r .given .1) (c .refuse .result) (c .refuse .ensures) (arrays y)
 
 returns-2 : tie.Need-returns-2
 returns-2 c =
     let o = c .before .before in
     let d = begun o in
     let y = points d in
-    start-gave (start y .pre) (start y .args .s) (d .before .a .given .0 .0) (d .before .a .given .0 .1 .0) (d .before .a .given .0 .1 .1 .0) (d .before .a .given .0 .1 .1 .1 .0) (y .read-first .result) (y .read-first .ensures) (d .before .a .given .1) (opened o) (o .open-in .result) (o .open-in .ensures) (after c) (c .read-rest .result) (c .read-rest .ensures)
+    start-gave (start y .pre) (start y .args .style) (start y .args .s) (d .before .a .given .0 .0) (d .before .a .given .0 .1 .0) (d .before .a .given .0 .1 .1 .0) (d .before .a .given .0 .1 .1 .1 .0) (y .read-first .result) (y .read-first .ensures) (d .before .a .given .1) (opened o) (o .open-in .result) (o .open-in .ensures) (after c) (c .read-rest .result) (c .read-rest .ensures)
 
 pub read-points-spec : {M : Type 1} → statement M
 read-points-spec =

@@ -104,7 +104,7 @@ returns-5 : tie.Need-returns-5
 returns-5 c =
     let y = c .before .before .before in
     let z = start y .args in
-    λ n s. third-bad (z .f .now) (z .at) _ _ (subst (EntriesRead (z .f .now) (z .at)) (c .before .r .given .1) (y .read-entries .ensures)) n s (second y)
+    λ τ n s. third-bad (z .f .now) (z .at) _ _ (subst (EntriesRead (z .f .now) (z .at)) (c .before .r .given .1) (y .read-entries .ensures)) τ n s (second y)
 
 returns-6 : tie.Need-returns-6
 returns-6 c =

@@ -75,8 +75,8 @@ at-points c = at-head (c .before .before .before .before)
 abbrev at-lines : tie.After-write-lines-arg → tie.Start
 at-lines c = at-points (c .before .before .before .before .before .before)
 
-abbrev at-end : tie.After-struct-known2 → tie.Start
-at-end c = at-lines (c .before .before .before .before .before)
+abbrev at-end : tie.After-write-lines → tie.Start
+at-end c = at-lines (c .before)
 
 put-head-requires : tie.Need-put-head-requires
 put-head-requires c κs = omega (arith, known (at-head c) .room)
@@ -107,20 +107,11 @@ write-lines-requires c κs =
     let p = c .before .before .before .before in
     (lines-ready (at-lines c .pre .0 .finished) _ _ (omega (arith, p .before .before .before .before .before .put-head .kept .0, p .write-points .kept .0, known (at-lines c) .room)), at-lines c .pre .1)
 
-add-put-word : tie.Need-add-put-word
-add-put-word c = omega (arith, known (at-lines (c .before .before .before .before)) .few)
-
-mul-put-word : tie.Need-mul-put-word
-mul-put-word c = omega (arith, known (at-end c) .few)
-
-add-put-word-2 : tie.Need-add-put-word-2
-add-put-word-2 c = omega (arith, known (at-end c) .few)
-
 put-word-requires : tie.Need-put-word-requires
 put-word-requires c κs =
-    let l = c .before .before .before .before in
+    let l = c .before .before .before in
     let p = l .before .before .before .before .before in
-    omega (arith, p .before .before .before .before .before .put-head .kept .0, p .write-points .kept .0, l .write-lines .kept .0, known (at-end c) .room)
+    omega (arith, p .before .before .before .before .before .put-head .kept .0, p .write-points .kept .0, l .write-lines .kept .0, l .write-lines .ensures .1, known (at-end l) .room)
 
 same-length : tie.Need-same-length
 same-length c = search needs
@@ -129,7 +120,7 @@ returns : tie.Need-returns
 unfolding arraysIn
 returns c d f =
     let e = c .before .before in
-    let l = e .before .before .before .before .before in
+    let l = e .before .before .before .before in
     let p = l .before .before .before .before .before in
     let h = p .before .before .before .before in
     let s = at-head (h .before .before) in
@@ -137,7 +128,7 @@ returns c d f =
     let w = t .before .before in
     let all =
     file-stored (s .args .x .now) (arrays s) (s .args .c) (h .before .before .before .narrow3 .ensures) (h .before .before .narrow4 .ensures) (w .before .before .before .broad .ensures) (w .before .before .narrow .ensures) (t .before .before .largest .ensures) (t .before .narrow2 .ensures)
-    (h .before .put-head .ensures) (p .write-points .ensures) (l .write-lines .ensures) (e .put-word .ensures) in
+    (h .before .put-head .ensures) (p .write-points .ensures) (l .write-lines .ensures .0) (rw (l .write-lines .ensures .1) at (e .put-word .ensures)) in
     stored-filled (has-room (s .pre .0) f) (rw (file-is f) at all)
 
 pub write-drawing-spec : {M : Type 1} → statement M
@@ -164,9 +155,6 @@ write-drawing-spec =
     mul-points
     add-write-lines
     write-lines-requires
-    add-put-word
-    mul-put-word
-    add-put-word-2
     put-word-requires
     same-length
     returns)
