@@ -1,5 +1,6 @@
 /* What target/staticlib/libpanel_c.a offers to C and C++; `rt staticlib panel_c` makes it.
    Files, numbers and places are those of document 01 (../shared/01-scope.md). README.md says what to do about each refusal.
+   An order file is drawn in one of two styles: `panel_X` draws lines with one bend at most, `panel_straight_X` straight lines.
 
    Lengths count bytes, or 16-bit words where the pointer is one to words. No pointer may be null, also with length 0.
    What a function writes to (`out`, `answers`, `at`, `place`, `line`, `refusal`) may not overlap anything else that it is given.
@@ -19,13 +20,15 @@
 #define PANEL_FEWEST_POINTS 3
 #define PANEL_MOST_POINTS 1024
 
-/* The lines of a finished drawing, and the bytes of its drawing file. */
+/* The lines of a finished drawing, and the bytes of its drawing file, one-bend and straight. */
 #define PANEL_LINE_COUNT(n) (3 * (n) - 6)
 #define PANEL_DRAWING_LENGTH(n) (42 * (n) - 60)
+#define PANEL_STRAIGHT_LENGTH(n) (30 * (n) - 36)
 
 /* The bytes of the longest files, and how many bytes of an order file the program `draw` judges as the whole file. */
 #define PANEL_LONGEST_ORDER 10238
 #define PANEL_LONGEST_DRAWING 42948
+#define PANEL_LONGEST_STRAIGHT 30684
 #define PANEL_ORDER_INPUT 32768
 
 /* The words of an answer: number and place. */
@@ -79,14 +82,20 @@ struct panel_place {
     uint64_t x, y;
 };
 
-/* A line: its ends, the kind of its bend, the port's index from 1 (0 for straight), the place of the bend, the line's own kind.
-   A left or right port is the earlier point's, a middle port the later point's. Line 1-2 is straight; its bend is the place of point 1. */
+/* A line: its ends, the kind of its bend, the port's index from 1 (0 for none), the place of the bend, the line's own kind.
+   A left or right port is the earlier point's, a middle port the later point's.
+   Line 1-2 has no bend; the place of point 1 stands for it. */
 struct panel_seen_line {
     uint64_t later, earlier, bend, port, bend_x, bend_y, kind;
 };
 
+/* A line of a straight drawing: its ends and its own kind. */
+struct panel_straight_seen_line {
+    uint64_t later, earlier, kind;
+};
+
 /* Kinds of bend. */
-#define PANEL_BEND_STRAIGHT 0
+#define PANEL_BEND_NONE 0
 #define PANEL_BEND_LEFT 1
 #define PANEL_BEND_RIGHT 2
 #define PANEL_BEND_MIDDLE 3
@@ -147,6 +156,37 @@ uint64_t panel_calls_line(size_t n, const uint16_t *calls, size_t calls_length, 
                           size_t number, struct panel_seen_line *line, struct panel_refusal *refusal);
 uint64_t panel_calls_cut_line(size_t n, const uint16_t *calls, size_t calls_length, uint16_t *answers,
                               size_t answers_length, size_t point, uint64_t *line, struct panel_refusal *refusal);
+
+/* Straight drawings: each function below takes, gives and refuses what its namesake above does, but for the following.
+   A drawing file begins with 44 53, its lines have no bend, and it has PANEL_STRAIGHT_LENGTH(n) bytes; a panel is
+   2n - 4 wide and n - 2 high. `panel_straight_undraw` gives 2 to the mark 44 48, as `panel_undraw` gives 2 to 44 53.
+   A plain line gives four moves, one of them a cut, a feeder the same four twice. Nothing is refused with 25. */
+uint64_t panel_straight_draw(const uint8_t *order, size_t order_length, uint8_t *out, size_t out_length,
+                             struct panel_refusal *refusal);
+uint64_t panel_straight_undraw(const uint8_t *drawing, size_t drawing_length, uint8_t *out, size_t out_length,
+                               struct panel_refusal *refusal);
+uint64_t panel_straight_move(const uint8_t *order, size_t order_length, float pitch, float depth, float clearance,
+                             size_t number, float at[2], struct panel_refusal *refusal);
+uint64_t panel_straight_point(const uint8_t *order, size_t order_length, size_t point, struct panel_place *place,
+                              struct panel_refusal *refusal);
+uint64_t panel_straight_line(const uint8_t *order, size_t order_length, size_t number,
+                             struct panel_straight_seen_line *line, struct panel_refusal *refusal);
+uint64_t panel_straight_cut_line(const uint8_t *order, size_t order_length, size_t point, uint64_t *line,
+                                 struct panel_refusal *refusal);
+uint64_t panel_straight_calls(size_t n, const uint16_t *calls, size_t calls_length, uint16_t *answers,
+                              size_t answers_length, uint8_t *out, size_t out_length, struct panel_refusal *refusal);
+uint64_t panel_straight_calls_move(size_t n, const uint16_t *calls, size_t calls_length, uint16_t *answers,
+                                   size_t answers_length, float pitch, float depth, float clearance, size_t number,
+                                   float at[2], struct panel_refusal *refusal);
+uint64_t panel_straight_calls_point(size_t n, const uint16_t *calls, size_t calls_length, uint16_t *answers,
+                                    size_t answers_length, size_t point, struct panel_place *place,
+                                    struct panel_refusal *refusal);
+uint64_t panel_straight_calls_line(size_t n, const uint16_t *calls, size_t calls_length, uint16_t *answers,
+                                   size_t answers_length, size_t number, struct panel_straight_seen_line *line,
+                                   struct panel_refusal *refusal);
+uint64_t panel_straight_calls_cut_line(size_t n, const uint16_t *calls, size_t calls_length, uint16_t *answers,
+                                       size_t answers_length, size_t point, uint64_t *line,
+                                       struct panel_refusal *refusal);
 
 #ifdef __cplusplus
 }

@@ -1,13 +1,14 @@
 -- What C is told of each answer: "Where the answer is an enum, there is a definition that gives this paper's number and values for each of its cases."
 use Prim.Native.Nat.{ℕ}
-use mathlib.Core.List.{[], _∷_}
+use mathlib.Core.List.{List, [], _∷_}
 use lib.Ieee.{Float, binary32, ofBits}
+use Rattle.rules.specs.declared.Line.{Line}
 use Rattle.rules.specs.Refusals.{Result, good, refused}
 use Rattle.rules.specs.DrawingFile.{lastField}
 use Rattle.answers.specs.declared.PointSeen.{PointSeen}
 use Rattle.answers.specs.declared.PointSeen.the-variants as Point
 use Rattle.answers.specs.declared.LineSeen.{LineSeen}
-use Rattle.answers.specs.declared.LineSeen.the-variants as Line
+use Rattle.answers.specs.declared.LineSeen.the-variants as Seen
 use Rattle.answers.specs.declared.CutSeen.{CutSeen}
 use Rattle.answers.specs.declared.CutSeen.the-variants as Cut
 use Rattle.answers.specs.declared.Written.{Written}
@@ -36,10 +37,24 @@ abbrev pub pointGiven : PointSeen → Result (Given ℕ)
 pointGiven (Point.At a) = good (withWords 1 (a .x ∷ a .y ∷ []))
 pointGiven (Point.Refused r p) = refused r p
 
--- "a line's ends, bend and cut flag", which is its kind now
+-- "a line's ends, bend and cut flag", which is its kind now, with the place of the bend
+abbrev pub lineWords : Line → ℕ → ℕ → List ℕ
+lineWords l x y = l .later ∷ l .earlier ∷ bendKind (l .bend) ∷ portOf (l .bend) ∷ x ∷ y ∷ lastField (l .kind) ∷ []
+
+-- these words are for drawings with bends; of a straight line, which has none, zeros would stand there
 abbrev pub lineGiven : LineSeen → Result (Given ℕ)
-lineGiven (Line.Seen l a) = good (withWords 1 (l .later ∷ l .earlier ∷ bendKind (l .bend) ∷ portOf (l .bend) ∷ a .x ∷ a .y ∷ lastField (l .kind) ∷ []))
-lineGiven (Line.Refused r p) = refused r p
+lineGiven (Seen.Bent l a) = good (withWords 1 (lineWords l (a .x) (a .y)))
+lineGiven (Seen.Straight l) = good (withWords 1 (lineWords l 0 0))
+lineGiven (Seen.Refused r p) = refused r p
+
+-- "its look-up gives no bend": a line's ends and its kind
+abbrev pub endsWords : Line → List ℕ
+endsWords l = l .later ∷ l .earlier ∷ lastField (l .kind) ∷ []
+
+abbrev pub endsGiven : LineSeen → Result (Given ℕ)
+endsGiven (Seen.Bent l a) = good (withWords 1 (endsWords l))
+endsGiven (Seen.Straight l) = good (withWords 1 (endsWords l))
+endsGiven (Seen.Refused r p) = refused r p
 
 -- "some cut line ending at a given point, or none"
 abbrev pub cutGiven : CutSeen → Result (Given ℕ)

@@ -5,10 +5,11 @@ use answers::LineSeen;
 use answers::Moved;
 use answers::PointSeen;
 use answers::Written;
+use rules::Line;
 use tool::Move;
 ghost use mathlib.Core.Path.{_≡_};
 ghost use Rattle.panel_told.specs.Telling.{codeOf, refusalOf, Tells};
-ghost use Rattle.panel_told.specs.Answers.{fileGiven, moveGiven, pointGiven, lineGiven, cutGiven};
+ghost use Rattle.panel_told.specs.Answers.{fileGiven, moveGiven, pointGiven, lineWords, lineGiven, endsWords, endsGiven, cutGiven};
 
 // The number of bytes written.
 pub fn tell_written(written: Written, buffer: u64, refusal: &mut [u64; 3]) -> u64
@@ -78,22 +79,67 @@ pub fn tell_point(found: PointSeen, buffer: u64, seen: &mut [u64; 2], refusal: &
     }
 }
 
-// A line: 1, and its later point, its earlier point, the kind of its bend, the port's index, the bend's x and y, and its own kind as a drawing file has it.
+// A line's words: later point, earlier point, the kind of its bend, the port's index, the bend's x and y, and its own kind as a drawing file has it.
+fn line_words(l: Line, x: u64, y: u64) -> [u64; 7]
+    ensures { λ r. ⌜ r ≡ lineWords l x y ⌝ }
+{
+    let later = panel_words::wide(l.later);
+    let earlier = panel_words::wide(l.earlier);
+    let b = l.bend;
+    let bent = panel_words::bend_kind(b);
+    let port = panel_words::port_of(b);
+    let kind = l.kind;
+    let field = panel_words::wide(words::last_field(kind));
+    [later, earlier, bent, port, x, y, field]
+}
+
+// A line: 1, and those words. For drawings with bends; a straight line has no place for one, and is told with `tell_ends`.
 pub fn tell_line(found: LineSeen, buffer: u64, seen: &mut [u64; 7], refusal: &mut [u64; 3]) -> u64
     ensures { λ r. ⌜ Tells buffer (lineGiven found) (now (seen .entry)) (now (seen .exit)) r (now (refusal .exit)) ⌝ }
 {
     match found {
-        LineSeen::Seen(l, bend) => {
-            let later = panel_words::wide(l.later);
-            let earlier = panel_words::wide(l.earlier);
-            let b = l.bend;
-            let bent = panel_words::bend_kind(b);
-            let port = panel_words::port_of(b);
+        LineSeen::Bent(l, bend) => {
             let x = panel_words::wide(bend.x);
             let y = panel_words::wide(bend.y);
-            let kind = l.kind;
-            let field = panel_words::wide(words::last_field(kind));
-            *seen = [later, earlier, bent, port, x, y, field];
+            *seen = line_words(l, x, y);
+            *refusal = [0, 0, 0];
+            1
+        }
+        LineSeen::Straight(l) => {
+            *seen = line_words(l, 0, 0);
+            *refusal = [0, 0, 0];
+            1
+        }
+        LineSeen::Refused(r, p) => {
+            panel_words::refuse(r, p, buffer, refusal);
+            0
+        }
+    }
+}
+
+// A line's words without a bend: later point, earlier point, and its kind.
+fn ends_words(l: Line) -> [u64; 3]
+    ensures { λ r. ⌜ r ≡ endsWords l ⌝ }
+{
+    let later = panel_words::wide(l.later);
+    let earlier = panel_words::wide(l.earlier);
+    let kind = l.kind;
+    let field = panel_words::wide(words::last_field(kind));
+    [later, earlier, field]
+}
+
+// A line without its bend: 1, and those words.
+pub fn tell_ends(found: LineSeen, buffer: u64, seen: &mut [u64; 3], refusal: &mut [u64; 3]) -> u64
+    ensures { λ r. ⌜ Tells buffer (endsGiven found) (now (seen .entry)) (now (seen .exit)) r (now (refusal .exit)) ⌝ }
+{
+    match found {
+        LineSeen::Bent(l, _) => {
+            *seen = ends_words(l);
+            *refusal = [0, 0, 0];
+            1
+        }
+        LineSeen::Straight(l) => {
+            *seen = ends_words(l);
             *refusal = [0, 0, 0];
             1
         }

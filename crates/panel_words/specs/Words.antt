@@ -3,7 +3,7 @@ use Prim.Native.Nat.{ℕ}
 use mathlib.Core.List.{List, [], _∷_}
 use lib.Dec.{eqb}
 use Rattle.rules.specs.declared.Bend.{Bend}
-use Rattle.rules.specs.declared.Bend.the-variants.{Left, Right, Middle, Straight}
+use Rattle.rules.specs.declared.Bend.the-variants.{Left, Right, Middle, NoBend}
 use Rattle.rules.specs.Basics.{if_then_else_}
 use Rattle.rules.specs.declared.Refusal.{Refusal}
 use Rattle.rules.specs.declared.Refusal.the-variants.{OutputShort}
@@ -29,14 +29,14 @@ refusalWords buffer r p = number r ∷ p ∷ shortOf buffer r ∷ []
 
 -- "A line's bend is at a left, right or middle port, or it has none"
 abbrev pub bendKind : Bend → ℕ
-bendKind Straight = 0
+bendKind NoBend = 0
 bendKind (Left j) = 1
 bendKind (Right j) = 2
 bendKind (Middle i) = 3
 
 -- the port's index
 abbrev pub portOf : Bend → ℕ
-portOf Straight = 0
+portOf NoBend = 0
 portOf (Left j) = j
 portOf (Right j) = j
 portOf (Middle i) = i

@@ -44,7 +44,7 @@ pub fn bend_kind(b: Bend) -> u64
     ensures { λ r. ⌜ r ≡ bendKind b ⌝ }
 {
     match b {
-        Bend::Straight => 0,
+        Bend::NoBend => 0,
         Bend::Left(_) => 1,
         Bend::Right(_) => 2,
         Bend::Middle(_) => 3,
@@ -56,7 +56,7 @@ pub fn port_of(b: Bend) -> u64
     ensures { λ r. ⌜ r ≡ portOf b ⌝ }
 {
     match b {
-        Bend::Straight => 0,
+        Bend::NoBend => 0,
         Bend::Left(j) => wide(j),
         Bend::Right(j) => wide(j),
         Bend::Middle(i) => wide(i),
