@@ -1,9 +1,16 @@
 // Runs the programs' work on the worked cases in data/, and writes for each its name, what comes out, and a line feed.
-// The names stand line by line on standard input, from the file `stdin`: a case whose name begins with `u` is a drawing file to be read, any other an order file to be drawn.
+// The names stand line by line on standard input, from the file `stdin`. By how its name begins a case is an order file to be drawn straight (`straight`), a straight drawing file to be read (`read`), a drawing file with bends to be read (`undraw`), or an order file to be drawn with bends.
+use files::Outcome;
 use libc::STDIN_FILENO;
 use libc::STDOUT_FILENO;
+use rules::Style;
 ghost use Prim.Native.Nat.{_≤_};
 ghost use lib.ListN.{length};
+
+// Whether a name begins with this letter.
+fn begins(name: &[u8], letter: u8) -> bool {
+    0 < name.len() && name[0] == letter
+}
 
 // Opens a case's file and writes its name.
 fn begin(name: &[u8]) -> i32 {
@@ -23,17 +30,27 @@ fn end(fd: i32) {
     libc::close(fd);
 }
 
+// What a case's program makes of its file.
+fn work(name: &[u8], fd: i32) -> Outcome {
+    if begins(name, b's') {
+        return files::draw(Style::Straight, fd);
+    }
+    if begins(name, b'r') {
+        return files::undraw(Style::Straight, fd);
+    }
+    if begins(name, b'u') {
+        return files::undraw(Style::OneBend, fd);
+    }
+    files::draw(Style::OneBend, fd)
+}
+
 // One case.
 fn run(name: &[u8]) {
     let fd = begin(name);
     if fd < 0 {
         return;
     }
-    if 0 < name.len() && name[0] == b'u' {
-        files::report(name, files::undraw(fd));
-    } else {
-        files::report(name, files::draw(fd));
-    }
+    files::report(name, work(name, fd));
     end(fd);
 }
 

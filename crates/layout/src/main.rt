@@ -2,6 +2,7 @@
 // Standard input holds 16-bit numbers, low byte first: n, the number of rounds, then the calls, each a count and its entries.
 use drawing::Drawing;
 use libc::STDOUT_FILENO;
+use rules::Style;
 use store_tables::BENDS;
 use store_tables::DLS;
 use store_tables::DRS;
@@ -65,7 +66,7 @@ fn repeat(n: usize, rounds: usize, calls: &[u16]) -> usize {
     let mut placed = 0;
     let mut done = 0;
     while done < rounds {
-        let ran = calls::run(n, calls, &mut answers);
+        let ran = calls::run(Style::OneBend, n, calls, &mut answers);
         let mixed = mix(ran.drawing, at) ^ answers[at];
         if 0 < done && mixed != seen {
             return 0;

@@ -1,9 +1,10 @@
-// Prints the cutter moves of document 01's K4 (n = 5, add 1,3, then 1,4,3,2), one line a move, in eighths of a millimetre: drawn by calls with one tool, and from its order file at scale 8 with another. Then those of request 1's worked case of four points, with a feeder and a guide.
+// Prints the cutter moves of document 01's K4 (n = 5, add 1,3, then 1,4,3,2), one line a move, in eighths of a millimetre: drawn by calls with one tool, and from its order file at scale 8 with another. Then those of request 1's worked case of four points, with a feeder and a guide, and those of request 2's, the same net drawn straight by calls.
 use answers::Counted;
 use answers::Moved;
 use drawing::Placed;
 use libc::STDOUT_FILENO;
 use rules::Answer;
+use rules::Style;
 use tool::Move;
 use tool::Tool;
 ghost use Rattle.drawing.specs.Places.{IsPlaced};
@@ -74,7 +75,7 @@ fn print_all(v: Placed, t: Tool)
 
 // The moves of an order file's drawing.
 fn print_order(order: &[u8], t: Tool) {
-    let done = panel::drawing_of(order);
+    let done = panel::drawing_of(Style::OneBend, order);
     let d = done.drawing;
     let answer = done.answer;
     let Answer::Accepted = answer else {
@@ -83,8 +84,15 @@ fn print_order(order: &[u8], t: Tool) {
     print_all(drawing::settle(d), t);
 }
 
+// The moves of a net of four points, drawn straight by calls.
+fn print_straight(t: Tool) {
+    let opened = drawing::open(Style::Straight, 4);
+    let four = drawing::add(opened.drawing, &[0x4001u16, 0x8003, 2]);
+    print_all(drawing::settle(four.drawing), t);
+}
+
 fn main() {
-    let opened = drawing::open(5);
+    let opened = drawing::open(Style::OneBend, 5);
     let four = drawing::add(opened.drawing, &[1u16, 3]);
     let five = drawing::add(four.drawing, &[1u16, 4, 3, 2]);
     print_all(
@@ -111,4 +119,9 @@ fn main() {
             clearance: 8.0,
         },
     );
+    print_straight(Tool {
+        pitch: 1.0,
+        depth: 1.0,
+        clearance: 80.0,
+    });
 }
