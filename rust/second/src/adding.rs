@@ -1,4 +1,4 @@
-//! Adding a point: the tests in their order, then steps 1 to 5.
+//! Adding a point: the tests in their order, then the steps of the drawing's style.
 
 use crate::drawing::{Bend, Drawing, Line, Place, Point};
 use crate::entry::Entry;
@@ -6,6 +6,7 @@ use crate::refusal::{
     Refusal, BOTH_MARKS, COVERED, FEW_ENTRIES, FINISHED, LISTED_OTHERWISE, NOT_PLACED, NOT_WHOLE,
     NO_PORT, NO_RUN,
 };
+use crate::style::Style;
 
 /// A run wl, .., wr as indexes into the boundary, l < r.
 #[derive(Clone, Copy)]
@@ -121,29 +122,16 @@ impl Drawing {
     /// the new point owns them and stands between wl and wr. Its lines are added last, in entry
     /// order", each of its entry's kind. "k grows by 1."
     fn add_run(&mut self, run: Run, entries: &[Entry]) -> Result<(), Refusal> {
-        let place = self.make_room(run);
-        let inner = self.boundary[run.l + 1..run.r].to_vec();
-        let new_point = Point {
-            place,
-            dl: 0,
-            dr: 0,
-            h: (run.r - run.l).div_ceil(2) as u16,
-            owner: None,
+        let (new_point, bends) = match self.style {
+            Style::OneBend => self.one_bend_steps(run)?,
+            Style::Straight => (self.straight_steps(run), vec![Bend::None; entries.len()]),
         };
-        let ports = self.middle_ports(&new_point, &inner)?;
-
-        let right = Bend::Right(self.point(self.boundary[run.l]).dr);
-        let left = Bend::Left(self.point(self.boundary[run.r]).dl);
-        let middle = ports.into_iter().map(Bend::Middle);
-        let bends = std::iter::once(right)
-            .chain(middle)
-            .chain(std::iter::once(left));
-
         let later = self.k() + 1;
-        for &covered in &inner {
-            self.point_mut(covered).owner = Some(later);
+        let inside = run.l + 1..run.r;
+        let covered: Vec<u16> = self.boundary.splice(inside, [later]).collect();
+        for point in covered {
+            self.point_mut(point).owner = Some(later);
         }
-        self.boundary.splice(run.l + 1..run.r, [later]);
         self.points.push(new_point);
         self.lines
             .extend(entries.iter().zip(bends).map(|(entry, bend)| Line {
@@ -153,6 +141,27 @@ impl Drawing {
                 kind: entry.kind,
             }));
         Ok(())
+    }
+
+    /// "A new point moves w(l+1) and all right of it by 1, then wr and all right of it by 1 more, and
+    /// sits where the line of slope 1 through wl meets that of slope -1 through wr."
+    fn straight_steps(&mut self, run: Run) -> Point {
+        self.move_right(run.l + 1, 1);
+        self.move_right(run.r, 1);
+        let [at_l, at_r] = [run.l, run.r].map(|w| self.point(self.boundary[w]).place);
+        Point::new(meeting(at_l.x - at_l.y, at_r.x + at_r.y))
+    }
+
+    /// Steps 1 to 5 and 25; gives the new point and the bends of its lines, in entry order.
+    fn one_bend_steps(&mut self, run: Run) -> Result<(Point, Vec<Bend>), Refusal> {
+        let mut new_point = Point::new(self.make_room(run));
+        new_point.h = (run.r - run.l).div_ceil(2) as u16;
+        let inner = &self.boundary[run.l + 1..run.r];
+        let ports = self.middle_ports(&new_point, inner)?;
+        let mut bends = vec![Bend::Right(self.point(self.boundary[run.l]).dr)];
+        bends.extend(ports.into_iter().map(Bend::Middle));
+        bends.push(Bend::Left(self.point(self.boundary[run.r]).dl));
+        Ok((new_point, bends))
     }
 
     /// Steps 1 to 4; gives the new point's place.
@@ -176,40 +185,24 @@ impl Drawing {
             self.move_right(run.r, 1);
             b += 1;
         }
-        Place {
-            x: (a + b) / 2,
-            y: (b - a) / 2,
-        }
+        meeting(a, b)
     }
 
     /// "To move a boundary point is to move all it owns, and what those own", for the boundary
-    /// points from the given index up to wm.
+    /// points from the given index up to wm. An owner is later than what it owns, so that going from
+    /// the latest point to the first decides it before.
     fn move_right(&mut self, from: usize, by: i64) {
-        let mut moves = vec![None; self.points.len()];
-        for (index, &point) in self.boundary.iter().enumerate() {
-            moves[usize::from(point) - 1] = Some(index >= from);
+        let mut moves = vec![false; self.points.len() + 1];
+        for &point in &self.boundary[from..] {
+            moves[usize::from(point)] = true;
         }
-        for point in 1..=self.k() {
-            self.climb(point, &mut moves);
-        }
-        for (point, moves) in self.points.iter_mut().zip(moves) {
-            if moves == Some(true) {
+        for (index, point) in self.points.iter_mut().enumerate().rev() {
+            if let Some(owner) = point.owner {
+                moves[index + 1] = moves[usize::from(owner)];
+            }
+            if moves[index + 1] {
                 point.place.x += by;
             }
-        }
-    }
-
-    /// Climbs from a point to its owner, that one's owner and so on, up to one that is decided, and
-    /// decides all of them as that one is.
-    fn climb(&self, point: u16, moves: &mut [Option<bool>]) {
-        let mut path = Vec::new();
-        let mut top = point;
-        while moves[usize::from(top) - 1].is_none() {
-            path.push(top);
-            top = self.point(top).owner.expect("a covered point is owned");
-        }
-        for point in path {
-            moves[usize::from(point) - 1] = moves[usize::from(top) - 1];
         }
     }
 
@@ -232,6 +225,15 @@ impl Drawing {
     }
 }
 
+/// Where the line of slope 1 with x - y = a meets that of slope -1 with x + y = b, a grid point.
+fn meeting(a: i64, b: i64) -> Place {
+    assert!((a + b) % 2 == 0, "no half is lost");
+    Place {
+        x: (a + b) / 2,
+        y: (b - a) / 2,
+    }
+}
+
 /// "A middle port at (a,b) reaches (c,e) if the distance of a and c is at most b - e."
 fn reaches(port: Place, point: Place) -> bool {
     (port.x - point.x).abs() <= port.y - point.y
@@ -239,7 +241,7 @@ fn reaches(port: Place, point: Place) -> bool {
 
 #[cfg(test)]
 mod tests {
-    use crate::{open, Drawing, Kind, Refusal};
+    use crate::{open, Drawing, Kind, Refusal, Style, STYLES};
 
     /// Calls, each with the number and place of its refusal, which changes nothing.
     fn refuses(drawing: &mut Drawing, cases: &[(&[u16], u16, usize)]) {
@@ -251,10 +253,16 @@ mod tests {
         }
     }
 
-    // "Order in adding: 21, 5, then entry by entry 6 before 7, then 8, 9, 25", with places.
+    // "Order in adding: 21, 5, then entry by entry 6 before 7, then 8, 9, 25", with places; "The existing
+    // checks but 25 apply" to straight drawings.
     #[test]
     fn refusals_in_order_and_nothing_changes() {
-        let mut drawing = open(6).unwrap();
+        STYLES.into_iter().for_each(refusals_in_order);
+    }
+
+    /// The same for one style.
+    fn refusals_in_order(style: Style) {
+        let mut drawing = open(style, 6).unwrap();
         drawing.add(&[1, 3, 2]).unwrap();
         let cases: [(&[u16], u16, usize); 15] = [
             (&[], 5, 0),
@@ -289,7 +297,12 @@ mod tests {
     // "13, an entry marked both guide and feeder, placed as 6 is, tested for each entry before 6".
     #[test]
     fn entries_marked_both() {
-        let mut drawing = open(6).unwrap();
+        STYLES.into_iter().for_each(marked_both);
+    }
+
+    /// The same for one style.
+    fn marked_both(style: Style) {
+        let mut drawing = open(style, 6).unwrap();
         drawing.add(&[1, 3, 2]).unwrap();
         let cases: [(&[u16], u16, usize); 17] = [
             (&[0xC001], 5, 0),
@@ -318,9 +331,9 @@ mod tests {
     }
 
     /// A drawing of five points by two calls, marked or not.
-    fn drawn(marks: [u16; 6]) -> Drawing {
+    fn drawn(style: Style, marks: [u16; 6]) -> Drawing {
         let [a, b, c, d, e, f] = marks;
-        let mut drawing = open(5).unwrap();
+        let mut drawing = open(style, 5).unwrap();
         drawing.add(&[a | 1, b | 3]).unwrap();
         drawing.add(&[c | 1, d | 4, e | 3, f | 2]).unwrap();
         drawing
@@ -329,16 +342,18 @@ mod tests {
     // "a drawing keeps the outcome for each line", "Places don't depend on it."
     #[test]
     fn kinds_are_kept_and_places_do_not_depend_on_them() {
-        let mut marked = drawn([0x4000, 0, 0x8000, 0x4000, 0x4000, 0]);
-        let kinds: Vec<Kind> = marked.lines.iter().map(|line| line.kind).collect();
-        let (guide, plain, feeder) = (Kind::Guide, Kind::Plain, Kind::Feeder);
-        let expected = [
-            plain, plain, plain, feeder, plain, guide, feeder, feeder, plain,
-        ];
-        assert_eq!(kinds, expected);
-        for line in &mut marked.lines {
-            line.kind = Kind::Plain;
+        for style in STYLES {
+            let mut marked = drawn(style, [0x4000, 0, 0x8000, 0x4000, 0x4000, 0]);
+            let kinds: Vec<Kind> = marked.lines.iter().map(|line| line.kind).collect();
+            let (guide, plain, feeder) = (Kind::Guide, Kind::Plain, Kind::Feeder);
+            let expected = [
+                plain, plain, plain, feeder, plain, guide, feeder, feeder, plain,
+            ];
+            assert_eq!(kinds, expected);
+            for line in &mut marked.lines {
+                line.kind = Kind::Plain;
+            }
+            assert_eq!(marked, drawn(style, [0; 6]));
         }
-        assert_eq!(marked, drawn([0; 6]));
     }
 }

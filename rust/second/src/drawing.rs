@@ -2,6 +2,7 @@
 
 use crate::entry::Kind;
 use crate::refusal::{Refusal, NO_SUCH, OUT_OF_RANGE};
+use crate::style::Style;
 
 /// A place in grid units; "y points up".
 #[derive(Clone, Copy, Debug, PartialEq, Eq, PartialOrd, Ord)]
@@ -10,7 +11,7 @@ pub struct Place {
     pub y: i64,
 }
 
-/// A placed point.
+/// A placed point. A straight drawing has no ports: there `dl`, `dr` and `h` stay 0.
 #[derive(Clone, Copy, Debug, PartialEq, Eq)]
 pub struct Point {
     pub place: Place,
@@ -27,7 +28,7 @@ pub struct Point {
 /// "A line's bend is at a left, right or middle port, or it has none", with the port's index.
 #[derive(Clone, Copy, Debug, PartialEq, Eq)]
 pub enum Bend {
-    /// Line 1-2 only.
+    /// Line 1-2, and every line of a straight drawing.
     None,
     /// Left port of the earlier point.
     Left(u16),
@@ -51,14 +52,15 @@ pub struct Line {
 pub struct LineAnswer {
     pub later: u16,
     pub earlier: u16,
-    pub bend: Bend,
-    pub bend_place: Place,
+    /// The bend and its place; a straight drawing "gives no bend".
+    pub bend: Option<(Bend, Place)>,
     pub kind: Kind,
 }
 
 /// A drawing; k is the number of `points`, and point p is `points[p - 1]`.
 #[derive(Clone, Debug, PartialEq, Eq)]
 pub struct Drawing {
+    pub style: Style,
     pub n: u16,
     pub s: u16,
     /// w1, .., wm, left to right.
@@ -68,41 +70,46 @@ pub struct Drawing {
 }
 
 /// "A drawing is opened for n points, n from 3 to 1,024."
-pub fn open(n: u16) -> Result<Drawing, Refusal> {
+pub fn open(style: Style, n: u16) -> Result<Drawing, Refusal> {
     if !(3..=1024).contains(&n) {
         return Err(Refusal::new(OUT_OF_RANGE, 0));
     }
+    let (points, bends) = opening(style);
+    let ends = [(2, 1), (3, 1), (3, 2)];
+    let lines = ends.into_iter().zip(bends);
     Ok(Drawing {
+        style,
         n,
         s: 1,
         boundary: vec![1, 3, 2],
-        points: vec![
-            opening_point(0, 0, 0, 1),
-            opening_point(6, 0, 1, 0),
-            opening_point(3, 2, 0, 0),
-        ],
-        lines: vec![
-            plain_line(2, 1, Bend::None),
-            plain_line(3, 1, Bend::Right(1)),
-            plain_line(3, 2, Bend::Left(1)),
-        ],
+        points: points.into(),
+        lines: lines.map(|(ends, bend)| plain_line(ends, bend)).collect(),
     })
 }
 
-/// "Opening places points 1, 2, 3", "after opening, dr of point 1 and dl of point 2 are 1".
-fn opening_point(x: i64, y: i64, dl: u16, dr: u16) -> Point {
-    Point {
-        place: Place { x, y },
+/// "Opening places points 1, 2, 3", "after opening, dr of point 1 and dl of point 2 are 1"; "line 1-2
+/// without a port, 3-1 at right port 1 of point 1, 3-2 at left port 1 of point 2". Straight: "Points 1,
+/// 2, 3 start at (0,0), (2,0), (1,1)."
+fn opening(style: Style) -> ([Point; 3], [Bend; 3]) {
+    let point = |x: i64, y: i64, dl: u16, dr: u16| Point {
         dl,
         dr,
-        h: 0,
-        owner: None,
+        ..Point::new(Place { x, y })
+    };
+    match style {
+        Style::OneBend => (
+            [point(0, 0, 0, 1), point(6, 0, 1, 0), point(3, 2, 0, 0)],
+            [Bend::None, Bend::Right(1), Bend::Left(1)],
+        ),
+        Style::Straight => (
+            [point(0, 0, 0, 0), point(2, 0, 0, 0), point(1, 1, 0, 0)],
+            [Bend::None; 3],
+        ),
     }
 }
 
-/// "line 1-2 without a port, 3-1 at right port 1 of point 1, 3-2 at left port 1 of point 2, all cut":
-/// none is marked, so all are plain.
-fn plain_line(later: u16, earlier: u16, bend: Bend) -> Line {
+/// "all cut": none of opening's lines is marked, so all are plain.
+fn plain_line((later, earlier): (u16, u16), bend: Bend) -> Line {
     Line {
         later,
         earlier,
@@ -112,6 +119,17 @@ fn plain_line(later: u16, earlier: u16, bend: Bend) -> Line {
 }
 
 impl Point {
+    /// "a left count dl and a right count dr, both 0 when it is placed", and no middle row.
+    pub(crate) fn new(place: Place) -> Self {
+        Point {
+            place,
+            dl: 0,
+            dr: 0,
+            h: 0,
+            owner: None,
+        }
+    }
+
     /// "Right port j (1 to dr) of a point (x,y) is (x + dr + 1, y + j), with the dr of now."
     pub fn right_port(&self, j: u16) -> Place {
         Place {
@@ -138,7 +156,7 @@ impl Point {
 }
 
 impl Line {
-    /// "A port is at the point that owns it": the owner of the line's port, none for line 1-2.
+    /// "A port is at the point that owns it": the owner of the line's port, if it has one.
     pub fn port_owner(&self) -> Option<u16> {
         match self.bend {
             Bend::None => None,
@@ -180,14 +198,14 @@ impl Drawing {
     }
 
     /// "A line's bend is at a left, right or middle port, or it has none (line 1-2 only; its bend
-    /// is written as the place of point 1)."
-    pub fn bend_of(&self, line: &Line) -> Place {
-        match line.bend {
+    /// is written as the place of point 1)." A straight drawing "takes no bends".
+    pub fn bend_of(&self, line: &Line) -> Option<Place> {
+        self.style.has_bends().then(|| match line.bend {
             Bend::None => self.point(1).place,
             Bend::Left(j) => self.point(line.earlier).left_port(j),
             Bend::Right(j) => self.point(line.earlier).right_port(j),
             Bend::Middle(i) => self.point(line.later).middle_port(i),
-        }
+        })
     }
 
     /// "Look-ups give, in grid units, a point's place"; 23 if there is no such point.
@@ -203,8 +221,7 @@ impl Drawing {
         Ok(LineAnswer {
             later: line.later,
             earlier: line.earlier,
-            bend: line.bend,
-            bend_place: self.bend_of(line),
+            bend: self.bend_of(line).map(|place| (line.bend, place)),
             kind: line.kind,
         })
     }
@@ -232,17 +249,20 @@ impl Drawing {
 #[cfg(test)]
 mod tests {
     use super::*;
+    use crate::STYLES;
 
     // "A drawing is opened for n points, n from 3 to 1,024."
     #[test]
     fn n_from_3_to_1024_opens() {
-        for n in 0..=u16::MAX {
-            match open(n) {
-                Ok(drawing) => assert!((3..=1024).contains(&n) && drawing.n == n),
-                Err(refusal) => {
-                    assert!(!(3..=1024).contains(&n));
-                    assert_eq!(refusal, Refusal::new(3, 0));
-                }
+        for style in STYLES {
+            for n in 0..=u16::MAX {
+                let opened = open(style, n).map(|drawing| (drawing.style, drawing.n));
+                let expected = if (3..=1024).contains(&n) {
+                    Ok((style, n))
+                } else {
+                    Err(Refusal::new(3, 0))
+                };
+                assert_eq!(opened, expected);
             }
         }
     }
@@ -250,37 +270,57 @@ mod tests {
     // "23 no such point, line or move", for points and lines.
     #[test]
     fn unknown_points_and_lines_give_23() {
-        let drawing = open(10).unwrap();
-        let none = Refusal::new(23, 0);
-        for point in [0, 4, 10, 11, u16::MAX] {
-            assert_eq!(drawing.place_of(point), Err(none));
-            assert_eq!(drawing.cut_line_at(point), Err(none));
+        for style in STYLES {
+            let drawing = open(style, 10).unwrap();
+            let none = Refusal::new(23, 0);
+            for point in [0, 4, 10, 11, u16::MAX] {
+                assert_eq!(drawing.place_of(point), Err(none));
+                assert_eq!(drawing.cut_line_at(point), Err(none));
+            }
+            assert_eq!(drawing.line(3), Err(none));
+            assert_eq!(drawing.line(usize::MAX), Err(none));
         }
-        assert_eq!(drawing.line(3), Err(none));
-        assert_eq!(drawing.line(usize::MAX), Err(none));
-        assert_eq!(drawing.line(1).unwrap().bend_place, Place { x: 2, y: 1 });
-        assert_eq!(drawing.line(2).unwrap().bend_place, Place { x: 4, y: 1 });
+    }
+
+    // The bends of an opened drawing; a straight one has none, also for line 1-2.
+    #[test]
+    fn bends_of_an_opened_drawing() {
+        let bends = |style| {
+            let drawing = open(style, 10).unwrap();
+            [0, 1, 2].map(|number| drawing.line(number).unwrap().bend)
+        };
+        let expected = [
+            (Bend::None, Place { x: 0, y: 0 }),
+            (Bend::Right(1), Place { x: 2, y: 1 }),
+            (Bend::Left(1), Place { x: 4, y: 1 }),
+        ];
+        assert_eq!(bends(Style::OneBend), expected.map(Some));
+        assert_eq!(bends(Style::Straight), [None; 3]);
     }
 
     // "or none exactly if there is none"
     #[test]
     fn a_point_with_guides_only_has_no_cut_line() {
-        let mut drawing = open(6).unwrap();
-        drawing.add(&[0x8001, 0x8003]).unwrap();
-        drawing.add(&[0x8004, 3]).unwrap();
-        assert_eq!(drawing.cut_line_at(4), Ok(None));
-        let number = drawing.cut_line_at(5).unwrap().unwrap();
-        let line = drawing.line(number).unwrap();
-        assert_eq!((line.kind, line.later), (Kind::Plain, 5));
+        for style in STYLES {
+            let mut drawing = open(style, 6).unwrap();
+            drawing.add(&[0x8001, 0x8003]).unwrap();
+            drawing.add(&[0x8004, 3]).unwrap();
+            assert_eq!(drawing.cut_line_at(4), Ok(None));
+            let number = drawing.cut_line_at(5).unwrap().unwrap();
+            let line = drawing.line(number).unwrap();
+            assert_eq!((line.kind, line.later), (Kind::Plain, 5));
+        }
     }
 
     // "A feeder is a cut line"
     #[test]
     fn a_point_with_a_feeder_has_a_cut_line() {
-        let mut drawing = open(6).unwrap();
-        drawing.add(&[0x8001, 0x4003]).unwrap();
-        assert_eq!(drawing.cut_line_at(4), Ok(Some(4)));
-        assert_eq!(drawing.line(3).unwrap().kind, Kind::Guide);
-        assert_eq!(drawing.line(4).unwrap().kind, Kind::Feeder);
+        for style in STYLES {
+            let mut drawing = open(style, 6).unwrap();
+            drawing.add(&[0x8001, 0x4003]).unwrap();
+            assert_eq!(drawing.cut_line_at(4), Ok(Some(4)));
+            assert_eq!(drawing.line(3).unwrap().kind, Kind::Guide);
+            assert_eq!(drawing.line(4).unwrap().kind, Kind::Feeder);
+        }
     }
 }

@@ -1,19 +1,21 @@
 //! "Drawing file, finished drawings only: 44 48, n, s, width, height (the largest y); per point
 //! 50 4F, x, y; per line 4C 4E, later point, earlier point, bend x, bend y, 1 for cut or 0 for
-//! guide; 45 4E." "A line's last field in a drawing file is 2 for a feeder".
+//! guide; 45 4E." "A line's last field in a drawing file is 2 for a feeder". A straight drawing's "file
+//! has mark 44 53 in place of 44 48, and line records without a bend".
 
 use crate::drawing::{open, Drawing, Place};
 use crate::entry::{Entry, Kind};
-use crate::promise::{Laid, Layout};
-use crate::records::{put, Reader, DRAWING_HEADER, DRAWING_LINE, DRAWING_POINT, END};
+use crate::promise::{Laid, Layout, Port};
+use crate::records::{put, put_out, Reader, DRAWING_LINE, DRAWING_POINT, END};
 use crate::refusal::{Refusal, NOT_ITS_DRAWING, OUT_OF_RANGE, UNFINISHED};
+use crate::style::Style;
 
 /// What a line record says.
 struct LineRecord {
     place: usize,
     later: u16,
     entry: Entry,
-    bend: [u16; 2],
+    bend: Option<[u16; 2]>,
 }
 
 /// What the records of a file say, before 4 to 9 and 11 are judged.
@@ -59,6 +61,11 @@ fn kind_of(field: u16) -> Kind {
     }
 }
 
+/// The drawing file in an output; gives the number of bytes written. "Then 22, then 24."
+pub fn write_into(drawing: &Drawing, out: &mut [u8]) -> Result<usize, Refusal> {
+    put_out(&write(drawing)?, out)
+}
+
 /// The drawing file; 22 while k < n.
 pub fn write(drawing: &Drawing) -> Result<Vec<u8>, Refusal> {
     if !drawing.is_finished() {
@@ -71,13 +78,15 @@ pub fn write(drawing: &Drawing) -> Result<Vec<u8>, Refusal> {
         number(drawing, drawing.width()),
         number(drawing, drawing.height()),
     ];
-    put(&mut bytes, DRAWING_HEADER, &header);
+    put(&mut bytes, drawing.style.mark(), &header);
     for point in &drawing.points {
         put(&mut bytes, DRAWING_POINT, &numbers(drawing, point.place));
     }
     for line in &drawing.lines {
-        let [x, y] = numbers(drawing, drawing.bend_of(line));
-        let record = [line.later, line.earlier, x, y, field_of(line.kind)];
+        let bend = drawing.bend_of(line).map(|place| numbers(drawing, place));
+        let mut record = vec![line.later, line.earlier];
+        record.extend(bend.into_iter().flatten());
+        record.push(field_of(line.kind));
         put(&mut bytes, DRAWING_LINE, &record);
     }
     put(&mut bytes, END, &[]);
@@ -85,9 +94,10 @@ pub fn write(drawing: &Drawing) -> Result<Vec<u8>, Refusal> {
 }
 
 /// "1, 2, 3 on the header (s from 1 to 8), 1 and 2 on all other records, 10, then 4 to 9 on each
-/// point's group of lines in turn, then 11"
-pub fn read(bytes: &[u8]) -> Result<Drawing, Refusal> {
-    let records = read_records(bytes)?;
+/// point's group of lines in turn, then 11". Each style has "a reader of its own": it gives 2 to the
+/// other's mark.
+pub fn read(style: Style, bytes: &[u8]) -> Result<Drawing, Refusal> {
+    let records = read_records(style, bytes)?;
     let mut drawing = records.opened;
     list_groups(&mut drawing, &records.lines, records.end)?;
     match first_difference(bytes, &write(&drawing)?) {
@@ -96,31 +106,31 @@ pub fn read(bytes: &[u8]) -> Result<Drawing, Refusal> {
     }
 }
 
-/// The layout of a finished drawing by the numbers of its file alone; nothing is drawn again. The
-/// first and the last line of a point bend at a port of the earlier point, the others at one of the
-/// later point; the boundary is 1, n, 2.
-pub fn layout(bytes: &[u8]) -> Result<Layout, Refusal> {
-    let records = read_records(bytes)?;
+/// The layout of a finished drawing by the numbers of its file alone; nothing is drawn again. In a
+/// one-bend drawing the first and the last line of a point bend at a port of the earlier point, the
+/// others at one of the later point; the boundary is 1, n, 2.
+pub fn layout(style: Style, bytes: &[u8]) -> Result<Layout, Refusal> {
+    let records = read_records(style, bytes)?;
     let Drawing { n, s, .. } = records.opened;
     let places = records.points.iter().map(|&xy| unscaled(xy, s));
     let mut lines = Vec::new();
     for group in records.lines.chunk_by(|one, two| one.later == two.later) {
         for (index, line) in group.iter().enumerate() {
             let outer = index == 0 || index == group.len() - 1;
-            let earlier = line.entry.point;
+            let (later, earlier) = (line.later, line.entry.point);
+            let owner = if outer { earlier } else { later };
+            let bend = line.bend.map(|xy| unscaled(xy, s)).transpose()?;
+            let port = bend.map(|place| Port { owner, place });
             lines.push(Laid {
-                later: line.later,
+                later,
                 earlier,
-                port_owner: match line.later {
-                    2 => None,
-                    _ if outer => Some(earlier),
-                    later => Some(later),
-                },
-                bend: unscaled(line.bend, s)?,
+                port: port.filter(|_| later > 2),
             });
         }
     }
     Ok(Layout {
+        style,
+        n,
         boundary: vec![1, n, 2],
         places: places.collect::<Result<Vec<Place>, Refusal>>()?,
         lines,
@@ -137,14 +147,14 @@ fn unscaled(written: [u16; 2], s: u16) -> Result<Place, Refusal> {
 }
 
 /// "1, 2, 3 on the header (s from 1 to 8), 1 and 2 on all other records, 10"
-fn read_records(bytes: &[u8]) -> Result<Records, Refusal> {
+fn read_records(style: Style, bytes: &[u8]) -> Result<Records, Refusal> {
     let mut reader = Reader::new(bytes);
-    let opened = read_header(&mut reader)?;
+    let opened = read_header(style, &mut reader)?;
     let points = (0..opened.n)
         .map(|_| read_point(&mut reader))
         .collect::<Result<Vec<[u16; 2]>, Refusal>>()?;
     let lines = (0..3 * opened.n - 6)
-        .map(|_| read_line(&mut reader))
+        .map(|_| read_line(style, &mut reader))
         .collect::<Result<Vec<LineRecord>, Refusal>>()?;
     let end = reader.mark(END)?;
     reader.end()?;
@@ -157,13 +167,13 @@ fn read_records(bytes: &[u8]) -> Result<Records, Refusal> {
 }
 
 /// "1, 2, 3 on the header (s from 1 to 8)"; width and height are judged by 11.
-fn read_header(reader: &mut Reader) -> Result<Drawing, Refusal> {
-    let place = reader.mark(DRAWING_HEADER)?;
+fn read_header(style: Style, reader: &mut Reader) -> Result<Drawing, Refusal> {
+    let place = reader.mark(style.mark())?;
     let n = reader.number()?;
     let s = reader.number()?;
     reader.number()?;
     reader.number()?;
-    let mut drawing = open(n).map_err(|refusal| refusal.at(place))?;
+    let mut drawing = open(style, n).map_err(|refusal| refusal.at(place))?;
     if !(1..=8).contains(&s) {
         return Err(Refusal::new(OUT_OF_RANGE, place));
     }
@@ -179,11 +189,14 @@ fn read_point(reader: &mut Reader) -> Result<[u16; 2], Refusal> {
 
 /// "On reading, the earlier point is a plain 16-bit number without a guide bit", and without a feeder
 /// bit; the bend, and a last field above 2, are judged by 11.
-fn read_line(reader: &mut Reader) -> Result<LineRecord, Refusal> {
+fn read_line(style: Style, reader: &mut Reader) -> Result<LineRecord, Refusal> {
     let place = reader.mark(DRAWING_LINE)?;
     let later = reader.number()?;
     let point = reader.number()?;
-    let bend = [reader.number()?, reader.number()?];
+    let bend = match style.has_bends() {
+        true => Some([reader.number()?, reader.number()?]),
+        false => None,
+    };
     let kind = kind_of(reader.number()?);
     Ok(LineRecord {
         place,

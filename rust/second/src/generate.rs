@@ -4,7 +4,9 @@ use crate::drawing::{open, Drawing};
 use crate::entry::{FEEDER_BIT, GUIDE_BIT, POINT_BITS};
 use crate::records::{
     put, DRAWING_HEADER, DRAWING_LINE, DRAWING_POINT, END, ORDER_HEADER, ORDER_POINT, SCALE,
+    STRAIGHT_HEADER,
 };
+use crate::style::Style;
 
 /// An xorshift generator; the same seed gives the same numbers.
 #[derive(Clone, Debug)]
@@ -40,7 +42,7 @@ impl Random {
 
 /// How the runs of a random order are chosen.
 #[derive(Clone, Copy, Debug, PartialEq, Eq)]
-pub enum Style {
+pub enum Runs {
     /// D is 1 or 2.
     Short,
     /// D is at least half of the largest.
@@ -53,13 +55,13 @@ pub enum Style {
     Whole,
 }
 
-/// All styles.
-pub const STYLES: [Style; 5] = [
-    Style::Short,
-    Style::Long,
-    Style::Mixed,
-    Style::Crowded,
-    Style::Whole,
+/// All of them.
+pub const RUNS: [Runs; 5] = [
+    Runs::Short,
+    Runs::Long,
+    Runs::Mixed,
+    Runs::Crowded,
+    Runs::Whole,
 ];
 
 /// An order: what an order file holds.
@@ -165,9 +167,9 @@ impl Shares {
     }
 }
 
-/// A random order of n points in a style, n from 3 to 1,024, with guides and feeders at random and a
-/// scale from 1 to 8.
-pub fn order(n: u16, style: Style, random: &mut Random) -> Order {
+/// A random order of n points with runs of a sort, n from 3 to 1,024, with guides and feeders at
+/// random and a scale from 1 to 8.
+pub fn order(n: u16, runs: Runs, random: &mut Random) -> Order {
     let crowded = random.between(1, 3) as u16;
     let shares = Shares::random(random);
     let mut boundary = vec![1, 3, 2];
@@ -176,7 +178,7 @@ pub fn order(n: u16, style: Style, random: &mut Random) -> Order {
         let (l, r) = if point == n {
             (0, boundary.len() - 1)
         } else {
-            run(&boundary, style, crowded, random)
+            run(&boundary, runs, crowded, random)
         };
         let mut entries = boundary[l..=r].to_vec();
         shares.mark(&mut entries, random);
@@ -229,15 +231,15 @@ fn mark_by(choice: u8) -> u16 {
     }
 }
 
-/// A run wl, .., wr of the boundary in a style, as indexes.
-fn run(boundary: &[u16], style: Style, crowded: u16, random: &mut Random) -> (usize, usize) {
+/// A run of a sort, wl, .., wr of the boundary, as indexes.
+fn run(boundary: &[u16], runs: Runs, crowded: u16, random: &mut Random) -> (usize, usize) {
     let most = boundary.len() - 1;
-    let (least_d, most_d) = match style {
-        Style::Short => (1, 2.min(most)),
-        Style::Long => (most.div_ceil(2), most),
-        Style::Mixed => (1, most),
-        Style::Crowded => return crowded_run(boundary, crowded, random),
-        Style::Whole => (most, most),
+    let (least_d, most_d) = match runs {
+        Runs::Short => (1, 2.min(most)),
+        Runs::Long => (most.div_ceil(2), most),
+        Runs::Mixed => (1, most),
+        Runs::Crowded => return crowded_run(boundary, crowded, random),
+        Runs::Whole => (most, most),
     };
     let d = random.between(least_d, most_d);
     let l = random.below(most - d + 1);
@@ -262,10 +264,10 @@ fn crowded_run(boundary: &[u16], crowded: u16, random: &mut Random) -> (usize, u
     }
 }
 
-/// A random list of adding calls in a style for n points, n from 3 to 1,024, with refused calls
-/// among them. It may stop before the drawing is finished, and may go on after.
-pub fn calls(n: u16, style: Style, random: &mut Random) -> Vec<Vec<u16>> {
-    let mut drawing = open(n).expect("n from 3 to 1,024");
+/// A random list of adding calls with runs of a sort for n points, n from 3 to 1,024, with refused
+/// calls among them. It may stop before the drawing is finished, and may go on after.
+pub fn calls(n: u16, runs: Runs, random: &mut Random) -> Vec<Vec<u16>> {
+    let mut drawing = open(Style::OneBend, n).expect("n from 3 to 1,024");
     let crowded = random.between(1, 3) as u16;
     let shares = Shares::random(random);
     let wrong_in_8 = random.below(7);
@@ -274,8 +276,8 @@ pub fn calls(n: u16, style: Style, random: &mut Random) -> Vec<Vec<u16>> {
     let mut after = random.below(4);
     while calls.len() < most && after > 0 {
         let whole = drawing.k() + 1 == n && random.below(4) > 0;
-        let style = if whole { Style::Whole } else { style };
-        let (l, r) = run(&drawing.boundary, style, crowded, random);
+        let runs = if whole { Runs::Whole } else { runs };
+        let (l, r) = run(&drawing.boundary, runs, crowded, random);
         let mut entries = drawing.boundary[l..=r].to_vec();
         let wrong = random.below(8) < wrong_in_8;
         if wrong {
@@ -337,6 +339,10 @@ fn cover(boundary: &mut Vec<u16>, l: usize, r: usize, point: u16) {
 /// end record.
 pub fn record_places(bytes: &[u8]) -> Vec<usize> {
     let number = |at: usize| usize::from(u16::from_be_bytes([bytes[at], bytes[at + 1]]));
+    let line_length = match bytes.starts_with(&STRAIGHT_HEADER) {
+        true => 8,
+        false => 12,
+    };
     let mut places = Vec::new();
     let mut at = 0;
     while at < bytes.len() {
@@ -344,9 +350,9 @@ pub fn record_places(bytes: &[u8]) -> Vec<usize> {
         at += match [bytes[at], bytes[at + 1]] {
             ORDER_HEADER | SCALE => 4,
             ORDER_POINT => 4 + 2 * number(at + 2),
-            DRAWING_HEADER => 10,
+            DRAWING_HEADER | STRAIGHT_HEADER => 10,
             DRAWING_POINT => 6,
-            DRAWING_LINE => 12,
+            DRAWING_LINE => line_length,
             _ => 2,
         };
     }
@@ -390,6 +396,12 @@ fn extend_orders(n: u16, boundary: &[u16], calls: &mut Vec<Vec<u16>>, orders: &m
 mod tests {
     use super::*;
     use crate::entry::Kind;
+    use crate::order_file;
+
+    /// The one-bend drawing of an order, which is accepted.
+    fn drawn(order: &Order) -> Drawing {
+        order_file::read(Style::OneBend, &order.bytes()).unwrap()
+    }
 
     // The number of orders of n points is 1, 1, 3, 15, 105, 945 for n from 3.
     #[test]
@@ -401,7 +413,7 @@ mod tests {
     // The same seed gives the same order, and other seeds give other orders.
     #[test]
     fn seeds_decide() {
-        let make = |seed| order(30, Style::Mixed, &mut Random::new(seed)).bytes();
+        let make = |seed| order(30, Runs::Mixed, &mut Random::new(seed)).bytes();
         assert_eq!(make(5), make(5));
         assert_ne!(make(5), make(6));
     }
@@ -409,14 +421,14 @@ mod tests {
     // The first points of an order are an order, and so is the order without marks and scale.
     #[test]
     fn shorter_and_plain_orders_are_accepted() {
-        for style in STYLES {
-            let order = order(40, style, &mut Random::new(41));
+        for runs in RUNS {
+            let order = order(40, runs, &mut Random::new(41));
             assert_eq!(order.shortened(40).plain(), order.plain());
             for n in 3..=40 {
-                let drawing = crate::order_file::read(&order.shortened(n).bytes()).unwrap();
+                let drawing = drawn(&order.shortened(n));
                 assert_eq!((drawing.n, drawing.s), (n, order.s));
             }
-            let plain = crate::order_file::read(&order.plain().bytes()).unwrap();
+            let plain = drawn(&order.plain());
             assert!(plain.s == 1 && plain.lines.iter().all(|line| line.kind == Kind::Plain));
         }
     }
@@ -438,11 +450,10 @@ mod tests {
         };
         let mut random = Random::new(9);
         for _ in 0..2000 {
-            let order = order(6, Style::Mixed, &mut random);
-            let mut drawing = crate::order_file::read(&order.bytes()).unwrap();
-            in_orders[index(&drawing)] = true;
-            drawing = open(6).unwrap();
-            for call in calls(6, Style::Mixed, &mut random) {
+            let order = order(6, Runs::Mixed, &mut random);
+            in_orders[index(&drawn(&order))] = true;
+            let mut drawing = open(Style::OneBend, 6).unwrap();
+            for call in calls(6, Runs::Mixed, &mut random) {
                 let _ = drawing.add(&call);
             }
             drawing.lines.drain(..3);
@@ -458,22 +469,26 @@ mod tests {
         let mut random = Random::new(3);
         for length in (0..50).chain([500, 2039, 2040, 2041, 3000]) {
             let choices: Vec<u8> = (0..length).map(|_| random.number() as u8).collect();
-            let drawing = crate::order_file::read(&order_by(&choices).bytes()).unwrap();
+            let drawing = drawn(&order_by(&choices));
             assert_eq!(usize::from(drawing.n), (length / 2).min(1020) + 4);
             assert!(length < 500 || !counts(&drawing).contains(&0));
         }
     }
 
-    // Lists of calls meet every refusal of adding but 25, and some finish their drawing.
+    // Lists of calls meet every refusal of adding but 25, and some finish their drawing; both styles
+    // give the same answers.
     #[test]
     fn lists_of_calls_are_refused_in_all_ways() {
         let mut seen = std::collections::BTreeSet::new();
         let mut random = Random::new(1);
-        for style in STYLES {
+        for runs in RUNS {
             for n in (3..40).chain(3..40) {
-                let mut drawing = open(n).unwrap();
-                for call in calls(n, style, &mut random) {
-                    seen.extend(drawing.add(&call).err().map(|refusal| refusal.number));
+                let mut drawing = open(Style::OneBend, n).unwrap();
+                let mut straight = open(Style::Straight, n).unwrap();
+                for call in calls(n, runs, &mut random) {
+                    let answer = drawing.add(&call);
+                    assert_eq!(straight.add(&call), answer);
+                    seen.extend(answer.err().map(|refusal| refusal.number));
                 }
                 seen.extend(drawing.is_finished().then_some(0));
             }
@@ -481,15 +496,14 @@ mod tests {
         assert!(seen.into_iter().eq([0, 5, 6, 7, 8, 9, 13, 21]));
     }
 
-    // Each style gives accepted orders, and all scales occur.
+    // Runs of each sort give accepted orders, and all scales occur.
     #[test]
-    fn styles_are_accepted() {
+    fn all_sorts_of_runs_are_accepted() {
         let mut scales = [false; 9];
-        for style in STYLES {
+        for runs in RUNS {
             for n in 3..60 {
-                let order = order(n, style, &mut Random::new(u64::from(n)));
-                let drawing = crate::order_file::read(&order.bytes()).unwrap();
-                assert_eq!(drawing.s, order.s);
+                let order = order(n, runs, &mut Random::new(u64::from(n)));
+                assert_eq!(drawn(&order).s, order.s);
                 scales[usize::from(order.s)] = true;
             }
         }

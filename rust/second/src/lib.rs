@@ -1,5 +1,5 @@
-//! A second implementation of document 01, "One-bend panel drawings", with wish 1 of document 02,
-//! "Double grooves for feeders".
+//! A second implementation of document 01, "One-bend panel drawings", with wishes 1 and 2 of document
+//! 02, "Double grooves for feeders" and "Straight panels".
 
 pub mod drawing;
 pub mod drawing_file;
@@ -13,8 +13,10 @@ mod adding;
 mod convert;
 mod entry;
 mod records;
+mod style;
 
 pub use convert::{draw, undraw};
 pub use drawing::{open, Bend, Drawing, Line, LineAnswer, Place, Point};
 pub use entry::Kind;
 pub use refusal::Refusal;
+pub use style::{Style, STYLES};

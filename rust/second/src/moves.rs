@@ -6,9 +6,7 @@ use crate::drawing::{Drawing, Line, Place};
 use crate::drawing_file::written;
 use crate::entry::Kind;
 use crate::refusal::{Refusal, NO_SUCH, TOOL_NUMBER, UNFINISHED};
-
-/// "Each cut line gives five moves", each time that it is cut.
-const MOVES_PER_CUT: usize = 5;
+use crate::style::Style;
 
 /// "a tool is three whole numbers of eighths of a millimetre, pitch 1 to 80, depth 1 to 40,
 /// clearance 1 to 80, held as f32"
@@ -33,36 +31,41 @@ pub enum Move {
 pub fn move_at(drawing: &Drawing, tool: Tool, number: usize) -> Result<Move, Refusal> {
     test_tool(tool)?;
     test_finished(drawing)?;
+    let per_cut = moves_per_cut(drawing.style);
     let line = cuts(drawing)
-        .nth(number / MOVES_PER_CUT)
+        .nth(number / per_cut)
         .ok_or(Refusal::new(NO_SUCH, 0))?;
-    let at = |place: Place| {
-        let x = millimetres(drawing, tool, place.x);
-        let y = millimetres(drawing, tool, place.y);
-        (x, y)
-    };
-    Ok(match number % MOVES_PER_CUT {
-        0 => {
-            let (x, y) = at(drawing.point(line.later).place);
-            Move::Travel(x, y)
-        }
-        1 => Move::Plunge(-tool.depth / 8.0),
-        2 => {
-            let (x, y) = at(drawing.bend_of(line));
-            Move::Cut(x, y)
-        }
-        3 => {
-            let (x, y) = at(drawing.point(line.earlier).place);
-            Move::Cut(x, y)
-        }
-        _ => Move::Lift(tool.clearance / 8.0),
-    })
+    Ok(line_moves(drawing, tool, line)[number % per_cut])
 }
 
 /// How many moves a drawing gives; 22 while k < n.
 pub fn move_count(drawing: &Drawing) -> Result<usize, Refusal> {
     test_finished(drawing)?;
-    Ok(MOVES_PER_CUT * cuts(drawing).count())
+    Ok(moves_per_cut(drawing.style) * cuts(drawing).count())
+}
+
+/// "Each cut line gives five moves", each time that it is cut; without a bend there is one cut less.
+fn moves_per_cut(style: Style) -> usize {
+    if style.has_bends() {
+        5
+    } else {
+        4
+    }
+}
+
+/// "travel to its later point, plunge to minus depth, cut to the bend, cut to the earlier point, lift to
+/// clearance"; a straight line "has one cut move, to its earlier point".
+fn line_moves(drawing: &Drawing, tool: Tool, line: &Line) -> Vec<Move> {
+    let at = |place: Place| [place.x, place.y].map(|xy| millimetres(drawing, tool, xy));
+    let [x, y] = at(drawing.point(line.later).place);
+    let mut moves = vec![Move::Travel(x, y), Move::Plunge(-tool.depth / 8.0)];
+    let earlier = drawing.point(line.earlier).place;
+    for place in drawing.bend_of(line).into_iter().chain([earlier]) {
+        let [x, y] = at(place);
+        moves.push(Move::Cut(x, y));
+    }
+    moves.push(Move::Lift(tool.clearance / 8.0));
+    moves
 }
 
 /// "the cut lines in line order", each as often as it is cut.
@@ -71,7 +74,7 @@ fn cuts(drawing: &Drawing) -> impl Iterator<Item = &Line> {
     lines.flat_map(|line| iter::repeat_n(line, times_cut(line.kind)))
 }
 
-/// "A feeder gives its five moves twice in succession."
+/// "A feeder gives its five moves twice in succession", a straight one its four.
 fn times_cut(kind: Kind) -> usize {
     match kind {
         Kind::Guide => 0,
@@ -109,7 +112,7 @@ fn millimetres(drawing: &Drawing, tool: Tool, coordinate: i64) -> f32 {
 #[cfg(test)]
 mod tests {
     use super::*;
-    use crate::open;
+    use crate::{open, STYLES};
 
     // A tool within its ranges.
     fn tool() -> Tool {
@@ -137,7 +140,7 @@ mod tests {
             f32::NEG_INFINITY,
             f32::MIN_POSITIVE,
         ];
-        let drawing = open(4).unwrap();
+        let drawing = open(Style::Straight, 4).unwrap();
         for value in bad {
             for place in 0..3 {
                 let mut tool = tool();
@@ -166,7 +169,7 @@ mod tests {
     // "pitch 1 to 80, depth 1 to 40, clearance 1 to 80": every whole number in range is taken.
     #[test]
     fn all_tools_in_range_are_taken() {
-        let drawing = open(3).unwrap();
+        let drawing = open(Style::OneBend, 3).unwrap();
         for pitch in 1..=80u8 {
             let tool = Tool {
                 pitch: pitch.into(),
@@ -183,14 +186,6 @@ mod tests {
     // bend, cut to the earlier point, lift to clearance."
     #[test]
     fn moves_of_an_opened_drawing() {
-        let mut drawing = open(3).unwrap();
-        drawing.lines[1].kind = Kind::Guide;
-        drawing.s = 3;
-        let tool = Tool {
-            pitch: 4.0,
-            depth: 3.0,
-            clearance: 9.0,
-        };
         let expected = [
             Move::Travel(9.0, 0.0),
             Move::Plunge(-0.375),
@@ -203,32 +198,64 @@ mod tests {
             Move::Cut(9.0, 0.0),
             Move::Lift(1.125),
         ];
-        assert_eq!(move_count(&drawing), Ok(10));
-        for (number, &wanted) in expected.iter().enumerate() {
-            assert_eq!(move_at(&drawing, tool, number), Ok(wanted));
-        }
-        assert_eq!(move_at(&drawing, tool, 10), Err(Refusal::new(23, 0)));
+        assert_eq!(opened_moves(Style::OneBend), expected);
+    }
+
+    // "A line has one cut move, to its earlier point".
+    #[test]
+    fn moves_of_a_straight_opened_drawing() {
+        let expected = [
+            Move::Travel(3.0, 0.0),
+            Move::Plunge(-0.375),
+            Move::Cut(0.0, 0.0),
+            Move::Lift(1.125),
+            Move::Travel(1.5, 1.5),
+            Move::Plunge(-0.375),
+            Move::Cut(3.0, 0.0),
+            Move::Lift(1.125),
+        ];
+        assert_eq!(opened_moves(Style::Straight), expected);
+    }
+
+    /// The moves of an opened drawing at scale 3, its line 3-1 a guide.
+    fn opened_moves(style: Style) -> Vec<Move> {
+        let mut drawing = open(style, 3).unwrap();
+        drawing.lines[1].kind = Kind::Guide;
+        drawing.s = 3;
+        let tool = Tool {
+            pitch: 4.0,
+            depth: 3.0,
+            clearance: 9.0,
+        };
+        all(&drawing, tool)
+    }
+
+    /// All moves of a drawing; after the last comes 23.
+    fn all(drawing: &Drawing, tool: Tool) -> Vec<Move> {
+        let count = move_count(drawing).unwrap();
+        let end = move_at(drawing, tool, count);
+        assert_eq!(end, Err(Refusal::new(23, 0)));
+        let moves = (0..count).map(|number| move_at(drawing, tool, number).unwrap());
+        moves.collect()
     }
 
     // "A feeder gives its five moves twice in succession": the five, then the same five again.
     #[test]
     fn the_moves_of_a_feeder_come_twice() {
-        let mut drawing = open(3).unwrap();
-        let all = |drawing: &Drawing| -> Vec<Move> {
-            let count = move_count(drawing).unwrap();
-            let end = move_at(drawing, tool(), count);
-            assert_eq!(end, Err(Refusal::new(23, 0)));
-            (0..count)
-                .map(|number| move_at(drawing, tool(), number).unwrap())
-                .collect()
-        };
-        let once = all(&drawing);
-        let [first, second, third] = [0, 5, 10].map(|at| &once[at..at + 5]);
-        drawing.lines[1].kind = Kind::Feeder;
-        assert_eq!(all(&drawing), [first, second, second, third].concat());
-        drawing.lines[0].kind = Kind::Guide;
-        assert_eq!(all(&drawing), [second, second, third].concat());
-        drawing.lines[2].kind = Kind::Feeder;
-        assert_eq!(all(&drawing), [second, second, third, third].concat());
+        for style in STYLES {
+            let mut drawing = open(style, 3).unwrap();
+            let once = all(&drawing, tool());
+            let per_cut = once.len() / 3;
+            let [first, second, third] = [0, 1, 2].map(|line| &once[line * per_cut..][..per_cut]);
+            drawing.lines[1].kind = Kind::Feeder;
+            let moves = all(&drawing, tool());
+            assert_eq!(moves, [first, second, second, third].concat());
+            drawing.lines[0].kind = Kind::Guide;
+            let moves = all(&drawing, tool());
+            assert_eq!(moves, [second, second, third].concat());
+            drawing.lines[2].kind = Kind::Feeder;
+            let moves = all(&drawing, tool());
+            assert_eq!(moves, [second, second, third, third].concat());
+        }
     }
 }

@@ -3,16 +3,17 @@
 
 use crate::drawing::{open, Drawing};
 use crate::entry::Entry;
-use crate::records::{put, Reader, END, ORDER_HEADER, ORDER_POINT, SCALE};
+use crate::records::{put, put_out, Reader, END, ORDER_HEADER, ORDER_POINT, SCALE};
 use crate::refusal::{Refusal, OUT_OF_RANGE, UNFINISHED};
+use crate::style::Style;
 
 /// "In an order file, record by record: 1 if fewer than two bytes are left, 2, then 1 for the rest,
-/// then the others; 10 last."
-pub fn read(bytes: &[u8]) -> Result<Drawing, Refusal> {
+/// then the others; 10 last." The order is drawn in the style.
+pub fn read(style: Style, bytes: &[u8]) -> Result<Drawing, Refusal> {
     let mut reader = Reader::new(bytes);
     let header = reader.mark(ORDER_HEADER)?;
     let n = reader.number()?;
-    let mut drawing = open(n).map_err(|refusal| refusal.at(header))?;
+    let mut drawing = open(style, n).map_err(|refusal| refusal.at(header))?;
     if reader.mark_is(SCALE) {
         drawing.s = read_scale(&mut reader)?;
     }
@@ -45,6 +46,11 @@ fn read_point(reader: &mut Reader) -> Result<(usize, Vec<Option<Entry>>), Refusa
         .map(|_| reader.number().map(Entry::split))
         .collect::<Result<Vec<Option<Entry>>, Refusal>>()?;
     Ok((place, entries))
+}
+
+/// The order file in an output; gives the number of bytes written. "Then 22, then 24."
+pub fn write_into(drawing: &Drawing, out: &mut [u8]) -> Result<usize, Refusal> {
+    put_out(&write(drawing)?, out)
 }
 
 /// The order file of a finished drawing; 22 while k < n.

@@ -1,11 +1,12 @@
 //! Records of files: "Every record begins with a two-byte mark"; numbers are 16 bits, high byte first.
 
-use crate::refusal::{Refusal, BYTES_AFTER, FILE_ENDS, WRONG_MARK};
+use crate::refusal::{Refusal, BYTES_AFTER, FILE_ENDS, OUTPUT_SHORT, WRONG_MARK};
 
 pub const ORDER_HEADER: [u8; 2] = [0x48, 0x44];
 pub const SCALE: [u8; 2] = [0x53, 0x43];
 pub const ORDER_POINT: [u8; 2] = [0x50, 0x54];
 pub const DRAWING_HEADER: [u8; 2] = [0x44, 0x48];
+pub const STRAIGHT_HEADER: [u8; 2] = [0x44, 0x53];
 pub const DRAWING_POINT: [u8; 2] = [0x50, 0x4F];
 pub const DRAWING_LINE: [u8; 2] = [0x4C, 0x4E];
 pub const END: [u8; 2] = [0x45, 0x4E];
@@ -72,4 +73,13 @@ impl<'a> Reader<'a> {
 pub fn put(bytes: &mut Vec<u8>, mark: [u8; 2], numbers: &[u16]) {
     bytes.extend(mark);
     bytes.extend(numbers.iter().flat_map(|number| number.to_be_bytes()));
+}
+
+/// "24 always has place 0. Output past the written bytes stays." Gives the number of bytes written.
+pub fn put_out(bytes: &[u8], out: &mut [u8]) -> Result<usize, Refusal> {
+    let target = out
+        .get_mut(..bytes.len())
+        .ok_or(Refusal::new(OUTPUT_SHORT, 0))?;
+    target.copy_from_slice(bytes);
+    Ok(bytes.len())
 }

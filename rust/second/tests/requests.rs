@@ -1,9 +1,11 @@
-//! Every case of request 1 in vectors-requests.txt, which has the sections of the requests that have landed.
+//! Every case of vectors-requests.txt, which has the sections of the requests that have landed.
 
 mod worked;
 
+use std::iter::Peekable;
+
 use second::moves::{move_at, move_count, Move, Tool};
-use second::{open, order_file, Bend, Drawing, Kind, Refusal};
+use second::{drawing_file, open, order_file, Bend, Drawing, Kind, Refusal, Style};
 use worked::{cases, check_file, from_hex, text_of, Case};
 
 /// The cases of a request's section, which begins with a heading and a few words.
@@ -37,22 +39,21 @@ fn added(drawing: &mut Drawing, entries: &[u16]) -> String {
 fn line_told(drawing: &Drawing, number: usize) -> Result<String, Refusal> {
     let line = drawing.line(number)?;
     let owner = drawing.lines[number].port_owner().unwrap_or(0);
-    let port = match line.bend {
-        Bend::None => "no port, bend written".into(),
-        Bend::Left(j) => format!("left port {j} of {owner}, bend"),
-        Bend::Right(j) => format!("right port {j} of {owner}, bend"),
-        Bend::Middle(i) => format!("middle port {i} of {owner}, bend"),
-    };
+    let bend = line.bend.map_or("no bend".into(), |(bend, place)| {
+        let port = match bend {
+            Bend::None => "no port, bend written".into(),
+            Bend::Left(j) => format!("left port {j} of {owner}, bend"),
+            Bend::Right(j) => format!("right port {j} of {owner}, bend"),
+            Bend::Middle(i) => format!("middle port {i} of {owner}, bend"),
+        };
+        format!("{port} {} {}", place.x, place.y)
+    });
     let kind = match line.kind {
         Kind::Guide => "guide",
         Kind::Plain => "plain",
         Kind::Feeder => "feeder",
     };
-    let (x, y) = (line.bend_place.x, line.bend_place.y);
-    Ok(format!(
-        "{}-{}, {port} {x} {y}, {kind}",
-        line.later, line.earlier
-    ))
+    Ok(format!("{}-{}, {bend}, {kind}", line.later, line.earlier))
 }
 
 /// The words of the file for some cut line that ends at a point.
@@ -61,23 +62,51 @@ fn cut_line_told(drawing: &Drawing, point: u16) -> Result<String, Refusal> {
     Ok(found.map_or("none".into(), |number| format!("line {number}")))
 }
 
+/// The words of the file for a point's place.
+fn place_told(drawing: &Drawing, point: u16) -> Result<String, Refusal> {
+    let place = drawing.place_of(point)?;
+    Ok(format!("{} {}", place.x, place.y))
+}
+
+/// The words of the file for the drawing file in an output of so many bytes; a refusal leaves them.
+fn drawing_told(drawing: &Drawing, room: usize) -> Result<String, Refusal> {
+    let mut out = vec![0xAA; room];
+    let written = drawing_file::write_into(drawing, &mut out);
+    assert!(written.is_ok() || out.iter().all(|&byte| byte == 0xAA));
+    Ok(format!("{} bytes", written?))
+}
+
+/// The words of the file for a move.
+fn move_told(drawing: &Drawing, tool: Tool, number: usize) -> Result<String, Refusal> {
+    Ok(match move_at(drawing, tool, number)? {
+        Move::Travel(x, y) => format!("travel {x} {y}"),
+        Move::Plunge(z) => format!("plunge {z}"),
+        Move::Cut(x, y) => format!("cut {x} {y}"),
+        Move::Lift(z) => format!("lift {z}"),
+    })
+}
+
 /// The answer to a call or a look-up, in the words of the file.
 fn told(drawing: &mut Drawing, asked: &str) -> String {
-    let words: Vec<&str> = asked.split_whitespace().collect();
+    let words: Vec<&str> = asked.split([' ', ',']).filter(|w| !w.is_empty()).collect();
+    let number = |word: &str| word.parse().unwrap();
     let told = match words.as_slice() {
         ["add", words @ ..] => Ok(added(drawing, &entries(words))),
-        ["line", number] => line_told(drawing, number.parse().unwrap()),
+        ["line", line] => line_told(drawing, number(line)),
         ["cut", "line", "at", point] => cut_line_told(drawing, point.parse().unwrap()),
+        ["place", "of", point] => place_told(drawing, point.parse().unwrap()),
+        ["drawing", "room", room] => drawing_told(drawing, number(room)),
+        ["move", step, "tool", words @ ..] => move_told(drawing, tool(words), number(step)),
         _ => panic!("unknown call: {asked}"),
     };
     told.unwrap_or_else(|refusal| refusal.to_string())
 }
 
 /// The tool of three numbers.
-fn tool(words: &str) -> Tool {
-    let numbers: Vec<f32> = words.split(' ').map(|word| word.parse().unwrap()).collect();
+fn tool(words: &[&str]) -> Tool {
+    let numbers: Vec<f32> = words.iter().map(|word| word.parse().unwrap()).collect();
     let [pitch, depth, clearance] = numbers[..] else {
-        panic!("not a tool: {words}");
+        panic!("not a tool: {words:?}");
     };
     Tool {
         pitch,
@@ -90,53 +119,83 @@ fn tool(words: &str) -> Tool {
 fn moves_told(drawing: &Drawing, tool: Tool) -> String {
     let count = move_count(drawing).unwrap();
     assert_eq!(move_at(drawing, tool, count), Err(Refusal::new(23, 0)));
-    let told = (0..count).map(|number| match move_at(drawing, tool, number).unwrap() {
-        Move::Travel(x, y) => format!("{number} travel {x} {y}"),
-        Move::Plunge(z) => format!("{number} plunge {z}"),
-        Move::Cut(x, y) => format!("{number} cut {x} {y}"),
-        Move::Lift(z) => format!("{number} lift {z}"),
+    let told = (0..count).map(|number| {
+        let told = move_told(drawing, tool, number).unwrap();
+        format!("{number} {told}")
     });
     told.collect::<Vec<String>>().join("; ")
 }
 
+/// The words of the file for all places, the boundary or the owners.
+fn state_told(drawing: &Drawing, what: &str) -> String {
+    let numbered = || (1..=drawing.k()).map(|point| (point, drawing.point(point)));
+    let owned = || numbered().filter_map(|(point, at)| Some((point, at.owner?)));
+    let (told, between): (Vec<String>, &str) = match what {
+        "places" => {
+            let places = numbered().map(|(point, at)| (point, at.place));
+            let told = places.map(|(point, place)| format!("{point} ({},{})", place.x, place.y));
+            (told.collect(), " ")
+        }
+        "boundary" => (drawing.boundary.iter().map(u16::to_string).collect(), " "),
+        "owned" if owned().count() == 0 => (vec!["none".into()], ""),
+        "owned" => {
+            let told = owned().map(|(point, owner)| format!("{point} by {owner}"));
+            (told.collect(), ", ")
+        }
+        _ => panic!("unknown row: {what}"),
+    };
+    told.join(between)
+}
+
 /// The drawing that a case's first row begins with.
 fn begun(row: &str) -> Drawing {
-    match row.split_once(' ') {
-        Some(("open", n)) => open(n.parse().unwrap()).unwrap(),
-        Some(("drawn", from)) => {
-            let order = from_hex(from.strip_prefix("from ").unwrap());
-            order_file::read(&order).unwrap()
-        }
+    let words: Vec<&str> = row.split(' ').collect();
+    let opened = |style, n: &str| open(style, n.parse().unwrap());
+    let drawing = match words.as_slice() {
+        ["open", n] => opened(Style::OneBend, n),
+        ["open", n, "straight"] => opened(Style::Straight, n),
+        ["drawn", "from", order] => order_file::read(Style::OneBend, &from_hex(order)),
+        ["drawn", "straight", "from", order] => order_file::read(Style::Straight, &from_hex(order)),
         _ => panic!("unknown beginning: {row}"),
-    }
+    };
+    drawing.unwrap()
+}
+
+/// The rows up to the next one with an answer.
+fn moves_wanted<'a>(rows: &mut Peekable<impl Iterator<Item = &'a str>>) -> String {
+    let no_answer = |row: &&str| !row.contains("->");
+    let wanted: Vec<&str> = std::iter::from_fn(|| rows.next_if(no_answer)).collect();
+    wanted.join("; ")
 }
 
 /// Runs a case of calls on one drawing; gives how many answers it has.
 fn check_calls(case: &Case) -> usize {
-    let mut rows = case.rows.iter();
+    let mut rows = case.rows.iter().copied().peekable();
     let mut drawing = begun(rows.next().unwrap());
     let mut answers = 0;
     while let Some(row) = rows.next() {
-        if let Some(words) = row.strip_prefix("all moves, tool ") {
-            let expected: Vec<&str> = rows.by_ref().copied().collect();
-            assert_eq!(moves_told(&drawing, tool(words)), expected.join("; "));
+        let (told, expected) = if let Some(words) = row.strip_prefix("all moves, tool ") {
+            let words: Vec<&str> = words.split(' ').collect();
+            (moves_told(&drawing, tool(&words)), moves_wanted(&mut rows))
+        } else if let Some((asked, expected)) = row.split_once("->") {
+            (told(&mut drawing, asked), expected.trim().into())
         } else {
-            let (asked, expected) = row.split_once("->").unwrap();
-            let told = told(&mut drawing, asked);
-            assert_eq!(told, expected.trim(), "{}: {row}", case.title);
-        }
+            let (what, expected) = row.split_once(' ').unwrap();
+            (state_told(&drawing, what), expected.trim().into())
+        };
+        assert_eq!(told, expected, "{}: {row}", case.title);
         answers += 1;
     }
     answers
 }
 
-// Files, "draw: an order file and its drawing; read: a drawing file and its order file", and "calls:
-// a list of calls on one drawing, with the answers".
-#[test]
-fn every_case_of_request_1() {
+/// Runs a section: files, "draw: an order file and its drawing; read: a drawing file and its order
+/// file", and "calls: a list of calls on one drawing, with the answers"; gives how many of each, and how
+/// many answers the calls have.
+fn run_section(request: usize) -> [usize; 3] {
     let text = text_of("vectors-requests.txt");
     let (mut files, mut calls, mut answers) = (0, 0, 0);
-    for case in section(&text, 1) {
+    for case in section(&text, request) {
         if case.title.starts_with("calls ") {
             answers += check_calls(&case);
             calls += 1;
@@ -145,5 +204,17 @@ fn every_case_of_request_1() {
             files += 1;
         }
     }
-    assert_eq!((files, calls, answers), (20, 2, 19));
+    [files, calls, answers]
+}
+
+// "Request 1: feeders"
+#[test]
+fn every_case_of_request_1() {
+    assert_eq!(run_section(1), [20, 2, 19]);
+}
+
+// "Request 2: straight panels"
+#[test]
+fn every_case_of_request_2() {
+    assert_eq!(run_section(2), [17, 2, 29]);
 }

@@ -1,10 +1,10 @@
 //! K1 to K10, "Ten drawings and refusals".
 
-use second::{open, Bend, Drawing, Kind, Place, Refusal};
+use second::{open, Bend, Drawing, Kind, Place, Refusal, Style};
 
 /// A drawing of n points after the given calls, all accepted.
 fn drawn(n: u16, calls: &[&[u16]]) -> Drawing {
-    let mut drawing = open(n).unwrap();
+    let mut drawing = open(Style::OneBend, n).unwrap();
     for call in calls {
         drawing.add(call).unwrap();
     }
@@ -26,7 +26,7 @@ fn bend(drawing: &Drawing, later: u16, earlier: u16) -> (i64, i64) {
         .iter()
         .find(|line| line.later == later && line.earlier == earlier)
         .unwrap();
-    let Place { x, y } = drawing.bend_of(line);
+    let Place { x, y } = drawing.bend_of(line).unwrap();
     (x, y)
 }
 
@@ -122,9 +122,9 @@ fn k8_a_covered_entry() {
 // "K9 n = 1,024 opens; 2 and 1,025 give 3."
 #[test]
 fn k9_range_of_n() {
-    assert!(open(1024).is_ok());
-    assert_eq!(open(2), Err(Refusal::new(3, 0)));
-    assert_eq!(open(1025), Err(Refusal::new(3, 0)));
+    assert!(open(Style::OneBend, 1024).is_ok());
+    assert_eq!(open(Style::OneBend, 2), Err(Refusal::new(3, 0)));
+    assert_eq!(open(Style::OneBend, 1025), Err(Refusal::new(3, 0)));
 }
 
 // "K10 adding to a finished drawing: 21."

@@ -1,33 +1,19 @@
-//! Demand 3, checked on a layout by trying every point, line and pair of lines.
+//! Demand 3, and what wish 2 promises of straight drawings, checked on a layout by trying every point,
+//! line and pair of lines.
 
 mod geometry;
+mod layout;
 
 use std::fmt;
 
-use crate::drawing::{Drawing, Place};
+use crate::drawing::Place;
+use crate::style::Style;
 use geometry::{Direction, Piece};
 
-/// What demand 3 speaks of, as places only: from a drawing, or from the numbers of a drawing file.
-#[derive(Clone, Debug, PartialEq, Eq)]
-pub struct Layout {
-    /// w1, .., wm, left to right.
-    pub boundary: Vec<u16>,
-    /// The places of points 1 to k.
-    pub places: Vec<Place>,
-    pub lines: Vec<Laid>,
-}
+pub use layout::{Laid, Layout, Port};
 
-/// A line of a layout.
-#[derive(Clone, Copy, Debug, PartialEq, Eq)]
-pub struct Laid {
-    pub later: u16,
-    pub earlier: u16,
-    /// "A port is at the point that owns it": none for line 1-2.
-    pub port_owner: Option<u16>,
-    pub bend: Place,
-}
-
-/// A clause of demand 3.
+/// A clause of the promise. "no two lines meet except at a shared end; the rest of demand 3 is about
+/// one-bend drawings", but for the line count, which both styles have.
 #[derive(Clone, Copy, Debug, PartialEq, Eq)]
 pub enum Clause {
     /// x strictly grows along the boundary.
@@ -43,10 +29,14 @@ pub enum Clause {
     Angle,
     /// There are 3k - 3 - m lines.
     LineCount,
-    /// All points and bends have x from 0 to W and 0 <= 2y <= W - 2.
+    /// All points and bends have x from 0 to W and 0 <= 2y <= W - 2; in a straight drawing 2y <= W.
     Frame,
-    /// W is at most 5k - 9.
+    /// W is at most 5k - 9; in a straight drawing it is 2k - 4.
     Width,
+    /// Straight: x + y is even along the boundary.
+    Even,
+    /// Straight: a finished panel is n - 2 high.
+    Height,
 }
 
 /// A violated clause, with what was found.
@@ -71,75 +61,28 @@ enum Sector {
     Middle,
 }
 
-impl From<&Drawing> for Layout {
-    /// The places of a drawing's points and bends.
-    fn from(drawing: &Drawing) -> Self {
-        let laid = drawing.lines.iter().map(|line| Laid {
-            later: line.later,
-            earlier: line.earlier,
-            port_owner: line.port_owner(),
-            bend: drawing.bend_of(line),
-        });
-        Layout {
-            boundary: drawing.boundary.clone(),
-            places: drawing.points.iter().map(|point| point.place).collect(),
-            lines: laid.collect(),
-        }
-    }
-}
-
-impl Layout {
-    /// The place of a point from 1 to k.
-    fn place(&self, point: u16) -> Place {
-        self.places[usize::from(point) - 1]
-    }
-
-    /// "k is how many are placed."
-    fn k(&self) -> u16 {
-        self.places.len() as u16
-    }
-
-    /// "W is the x of point 2."
-    fn width(&self) -> i64 {
-        self.place(2).x
-    }
-
-    /// The lines that end at a point.
-    fn lines_at(&self, point: u16) -> impl Iterator<Item = &Laid> {
-        self.lines.iter().filter(move |line| line.ends_at(point))
-    }
-}
-
-impl Laid {
-    /// Whether the line ends at the point.
-    fn ends_at(&self, point: u16) -> bool {
-        self.later == point || self.earlier == point
-    }
-
-    /// The end of the line that isn't the given end.
-    fn other_end(&self, point: u16) -> u16 {
-        if self.later == point {
-            self.earlier
-        } else {
-            self.later
-        }
-    }
-}
-
-/// "Demand 3 comes in full": all violated clauses, none if the layout keeps the promise.
+/// "Demand 3 comes in full": all violated clauses, none if the layout keeps the promise of its style.
 pub fn check(layout: &Layout) -> Vec<Violation> {
     let mut check = Check {
         layout,
         found: Vec::new(),
     };
-    check.boundary_grows();
-    check.boundary_lines();
-    check.sectors();
     check.crossings();
-    check.angles();
     check.line_count();
     check.frame();
     check.width();
+    match layout.style {
+        Style::OneBend => {
+            check.boundary_grows();
+            check.boundary_lines();
+            check.sectors();
+            check.angles();
+        }
+        Style::Straight => {
+            check.even_boundary();
+            check.height();
+        }
+    }
     check.found
 }
 
@@ -181,9 +124,9 @@ impl Check<'_> {
                 self.note(Clause::BoundaryLine, message);
                 continue;
             };
-            let free = free_piece(self.layout, line).direction();
+            let free = self.layout.free_piece(line).direction();
             if free.u.abs() != free.v.abs() {
-                let message = format!("free piece of {} goes ({},{})", name(line), free.u, free.v);
+                let message = format!("free piece of {} goes ({},{})", line.name(), free.u, free.v);
                 self.note(Clause::BoundaryLine, message);
             }
         }
@@ -195,16 +138,16 @@ impl Check<'_> {
         for point in 1..=self.layout.k() {
             let mut taken: Vec<Sector> = Vec::new();
             for line in self.layout.lines_at(point) {
-                if line.port_owner == Some(point) {
+                if line.port.is_some_and(|port| port.owner == point) {
                     continue;
                 }
-                let direction = leaving(self.layout, line, point);
+                let direction = self.layout.leaving(line, point);
                 match sector(direction) {
                     None => self.note(
                         Clause::Sectors,
                         format!(
                             "{} leaves {point} towards ({},{}), in no sector",
-                            name(line),
+                            line.name(),
                             direction.u,
                             direction.v
                         ),
@@ -213,7 +156,7 @@ impl Check<'_> {
                         Clause::Sectors,
                         format!(
                             "{} is not the only line in {sector:?} of {point}",
-                            name(line)
+                            line.name()
                         ),
                     ),
                     Some(sector) => taken.push(sector),
@@ -228,12 +171,12 @@ impl Check<'_> {
         let drawn: Vec<(&Laid, Vec<Piece>)> = layout
             .lines
             .iter()
-            .map(|line| (line, pieces(layout, line)))
+            .map(|line| (line, layout.pieces(line)))
             .collect();
         for (index, one) in drawn.iter().enumerate() {
             for two in &drawn[index + 1..] {
                 if !apart(layout, one, two) {
-                    let message = format!("{} and {} meet", name(one.0), name(two.0));
+                    let message = format!("{} and {} meet", one.0.name(), two.0.name());
                     self.note(Clause::Crossing, message);
                 }
             }
@@ -249,13 +192,16 @@ impl Check<'_> {
             let lines: Vec<&Laid> = self.layout.lines_at(point).collect();
             let factor = 2 * lines.len() as i128 - 1;
             for (index, one) in lines.iter().enumerate() {
-                let a = leaving(self.layout, one, point);
+                let a = self.layout.leaving(one, point);
                 for two in &lines[index + 1..] {
-                    let b = leaving(self.layout, two, point);
+                    let b = self.layout.leaving(two, point);
                     let dot = a.dot(b);
                     if dot > 0 && factor * a.cross(b).abs() < dot {
-                        let message =
-                            format!("{} and {} stand too close at {point}", name(one), name(two));
+                        let message = format!(
+                            "{} and {} stand too close at {point}",
+                            one.name(),
+                            two.name()
+                        );
                         self.note(Clause::Angle, message);
                     }
                 }
@@ -282,71 +228,58 @@ impl Check<'_> {
             self.in_frame(place, format!("point {point}"));
         }
         for line in &self.layout.lines {
-            self.in_frame(line.bend, format!("bend of {}", name(line)));
+            if let Some(port) = line.port {
+                self.in_frame(port.place, format!("bend of {}", line.name()));
+            }
         }
     }
 
     /// The same sentence for one place.
     fn in_frame(&mut self, place: Place, what: String) {
         let width = self.layout.width();
-        let inside = 0 <= place.x && place.x <= width && 0 <= place.y && 2 * place.y <= width - 2;
+        let twice_highest = match self.layout.style {
+            Style::OneBend => width - 2,
+            Style::Straight => width,
+        };
+        let inside = (0..=width).contains(&place.x) && (0..=twice_highest).contains(&(2 * place.y));
         if !inside {
             let message = format!("{what} is at ({},{}), W = {width}", place.x, place.y);
             self.note(Clause::Frame, message);
         }
     }
 
-    /// Demand 3: W is at most 5k - 9.
+    /// Demand 3: W is at most 5k - 9. "A finished panel is 2n - 4 wide" if it is straight, and grows to
+    /// that by 2 a point.
     fn width(&mut self) {
         let width = self.layout.width();
-        let k = self.layout.k();
-        if width > 5 * i64::from(k) - 9 {
+        let k = i64::from(self.layout.k());
+        let fits = match self.layout.style {
+            Style::OneBend => width <= 5 * k - 9,
+            Style::Straight => width == 2 * k - 4,
+        };
+        if !fits {
             self.note(Clause::Width, format!("W = {width} with k = {k}"));
         }
     }
-}
 
-/// A line's name in messages, "later-earlier".
-fn name(line: &Laid) -> String {
-    format!("{}-{}", line.later, line.earlier)
-}
-
-/// "the rest, up to the other end, is the free piece"; "Line 1-2 is one free piece."
-fn free_piece(layout: &Layout, line: &Laid) -> Piece {
-    let free_end = match line.port_owner {
-        Some(owner) => line.other_end(owner),
-        None => line.later,
-    };
-    Piece {
-        from: line.bend,
-        to: layout.place(free_end),
+    /// A line of slope 1 through a boundary point and one of slope -1 through another meet at a grid
+    /// point: x + y is even along the boundary.
+    fn even_boundary(&mut self) {
+        for &point in &self.layout.boundary {
+            let Place { x, y } = self.layout.place(point);
+            if (x + y) % 2 != 0 {
+                self.note(Clause::Even, format!("point {point} is at ({x},{y})"));
+            }
+        }
     }
-}
 
-/// "The piece from the port's owner to the port is the port piece"; with the free piece.
-fn pieces(layout: &Layout, line: &Laid) -> Vec<Piece> {
-    let port_piece = line.port_owner.map(|owner| Piece {
-        from: layout.place(owner),
-        to: line.bend,
-    });
-    let mut pieces = vec![free_piece(layout, line)];
-    pieces.extend(port_piece);
-    pieces
-}
-
-/// "a line whose port is at the point leaves towards that port"; else along the free piece, and "if
-/// its free piece has no length, that is towards the port's owner".
-fn leaving(layout: &Layout, line: &Laid, point: u16) -> Direction {
-    let place = layout.place(point);
-    let other = layout.place(line.other_end(point));
-    if line.port_owner.is_none() {
-        return Direction::between(place, other);
-    }
-    let to_bend = Direction::between(place, line.bend);
-    if to_bend.is_zero() {
-        Direction::between(place, other)
-    } else {
-        to_bend
+    /// "A finished panel is 2n - 4 wide and n - 2 high."
+    fn height(&mut self) {
+        let Layout { n, places, .. } = self.layout;
+        let highest = places.iter().map(|place| place.y).max();
+        if self.layout.k() == *n && highest != Some(i64::from(*n) - 2) {
+            self.note(Clause::Height, format!("{highest:?} high with n = {n}"));
+        }
     }
 }
 
@@ -381,11 +314,16 @@ fn apart(layout: &Layout, one: &(&Laid, Vec<Piece>), two: &(&Laid, Vec<Piece>)) 
 #[cfg(test)]
 mod tests {
     use super::*;
-    use crate::{open, Bend};
+    use crate::{open, Bend, Drawing, STYLES};
 
     // K4's drawing.
     fn drawing() -> Drawing {
-        let mut drawing = open(5).unwrap();
+        drawn(Style::OneBend)
+    }
+
+    // The same calls in either style.
+    fn drawn(style: Style) -> Drawing {
+        let mut drawing = open(style, 5).unwrap();
         drawing.add(&[1, 3]).unwrap();
         drawing.add(&[1, 4, 3, 2]).unwrap();
         drawing
@@ -399,7 +337,42 @@ mod tests {
     // The drawing as the rules give it keeps every clause.
     #[test]
     fn a_right_drawing_passes() {
-        assert_eq!(check(&(&drawing()).into()), Vec::new());
+        for style in STYLES {
+            assert_eq!(check(&(&drawn(style)).into()), Vec::new());
+        }
+    }
+
+    // The same for straight drawings: places 1 (0,0), 2 (6,0), 3 (4,1), 4 (3,2), 5 (3,3).
+    #[test]
+    fn each_clause_of_straight_drawings_can_fail() {
+        let right = drawn(Style::Straight);
+        let places: Vec<(i64, i64)> = (right.points.iter())
+            .map(|point| (point.place.x, point.place.y))
+            .collect();
+        assert_eq!(places, [(0, 0), (6, 0), (4, 1), (3, 2), (3, 3)]);
+        let moved = |point: usize, x: i64, y: i64| {
+            let mut wrong = right.clone();
+            wrong.points[point - 1].place = Place { x, y };
+            wrong
+        };
+        // Point 4 beyond line 5-3, on line 2-1, at point 3.
+        for (x, y) in [(5, 2), (5, 0), (4, 1)] {
+            assert!(finds(&moved(4, x, y), Clause::Crossing));
+        }
+        let mut wrong = right.clone();
+        wrong.lines.pop();
+        assert!(finds(&wrong, Clause::LineCount));
+        for (x, y) in [(3, 4), (-1, 1), (7, 1), (3, -1)] {
+            assert!(finds(&moved(5, x, y), Clause::Frame));
+        }
+        for x in [5, 7, 8] {
+            assert!(finds(&moved(2, x, 0), Clause::Width));
+        }
+        assert!(finds(&moved(5, 4, 3), Clause::Even));
+        assert!(finds(&moved(5, 3, 1), Clause::Height));
+        let mut unfinished = moved(5, 3, 1);
+        unfinished.n = 6;
+        assert!(!finds(&unfinished, Clause::Height));
     }
 
     // Each clause is found violated in a drawing that was changed to break it.

@@ -1,6 +1,6 @@
 //! Worked cases from a file of text.
 
-use second::{draw, undraw, Refusal};
+use second::{draw, undraw, Refusal, Style};
 
 /// A worked case: its kind and name, and the rows below them, without their indent.
 pub struct Case<'a> {
@@ -51,7 +51,8 @@ fn answer(result: Result<usize, Refusal>, out: &[u8]) -> String {
     }
 }
 
-/// Runs a case of one file: two rows, "out is the file that comes back or the refusal".
+/// Runs a case of one file: two rows, "out is the file that comes back or the refusal". "'draw straight'
+/// and 'read straight' are the new pair".
 pub fn check_file(case: &Case) {
     let [input, expected] = case.rows[..] else {
         panic!("not two rows: {}", case.title);
@@ -59,9 +60,15 @@ pub fn check_file(case: &Case) {
     let input = from_hex(input.strip_prefix("in ").unwrap().trim());
     let expected = expected.strip_prefix("out ").unwrap();
     let mut out = [0xAA; 1000];
-    let result = match case.title.split(' ').next() {
-        Some("draw") => draw(&input, &mut out),
-        Some("read") => undraw(&input, &mut out),
+    let mut words = case.title.split(' ');
+    let way = words.next();
+    let style = match words.next() {
+        Some("straight") => Style::Straight,
+        _ => Style::OneBend,
+    };
+    let result = match way {
+        Some("draw") => draw(style, &input, &mut out),
+        Some("read") => undraw(style, &input, &mut out),
         _ => panic!("unknown kind: {}", case.title),
     };
     assert_eq!(answer(result, &out), expected, "{}", case.title);
