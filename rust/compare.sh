@@ -22,6 +22,7 @@ cc -std=c99 $options -o target/draw_c examples/draw.c "$library"
 cc -std=c99 $options -o target/look_c examples/look.c "$library"
 target/draw_c <examples/k4.order | cmp - examples/k4.drawing
 target/draw_c <examples/feeders.order | cmp - examples/feeders.drawing
+target/draw_c straight <examples/feeders.order | cmp - examples/feeders.straight
 target/look_c 4 <examples/k4.order | diff - <(
     printf '%s\n' 'point 4 at (5,3)' 'line 3: 4 to 1, plain' 'line 4: 4 to 3, plain' 'line 6: 5 to 4, plain'
 )
@@ -35,4 +36,5 @@ fi
 if command -v c++ >/dev/null; then
     c++ -std=c++11 $options -o target/draw_cpp -x c++ examples/draw.c -x none "$library"
     target/draw_cpp <examples/k4.order | cmp - examples/k4.drawing
+    target/draw_cpp straight <examples/feeders.order | cmp - examples/feeders.straight
 fi

@@ -1,5 +1,5 @@
 #!/usr/bin/env bash
-# Fuzzes draw and undraw of the proved library against the second implementation: fuzz.sh SECONDS (60 if not given).
+# Fuzzes draw and undraw, in both styles, of the proved library against the second implementation: fuzz.sh SECONDS (60 if not given).
 # libFuzzer (Debian: clang, libclang-rt-14-dev) is guided by the coverage of the second implementation.
 # The corpus stays in target/fuzz/corpus; an input that differs is written to target/fuzz/found.
 set -eu

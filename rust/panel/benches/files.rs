@@ -1,50 +1,79 @@
-//! Times draw and undraw of the proved library and of the second implementation on the same files.
+//! Times draw and undraw of the proved library and of the second implementation on the same files, in
+//! both styles of drawing.
 
 use std::hint::black_box;
 use std::time::{Duration, Instant};
 
-use second::generate::{order, Random, Style};
+use panel::straight;
+use second::generate::{order, Random, Runs};
+use second::{drawing_file, order_file, Style, STYLES};
 
 const SIZES: [u16; 3] = [64, 256, 1024];
 const BATCHES: usize = 100;
 const BATCH: Duration = Duration::from_millis(1);
 
-/// A table for each way and style.
+/// A table for each way and sort of runs.
 fn main() {
     println!("Microseconds a call in {BATCHES} batches of {BATCH:?} or one call each:");
     println!("of the quickest batch, and in brackets of the one in the middle.");
-    println!("Both sides take turns on the same file and write into the same buffer,");
-    println!("which is kept from call to call and not cleared.");
-    for (style, name) in [
-        (Style::Short, "random short runs"),
-        (Style::Whole, "runs over the whole boundary"),
+    println!("Both sides and both styles take turns on the same order file, or its drawings,");
+    println!("and write into the same buffer, which is kept from call to call and not cleared.");
+    println!("The last column has what the straight style takes for what the other takes.");
+    for (runs, name) in [
+        (Runs::Short, "random short runs"),
+        (Runs::Whole, "runs over the whole boundary"),
     ] {
-        let files: Vec<(Vec<u8>, Vec<u8>)> = SIZES.map(|n| files(n, style)).into();
-        let draws = files.iter().map(|(order, drawing)| {
-            times(
-                drawing,
-                |out| panel::draw_into(black_box(order), out).ok(),
-                |out| second::draw(black_box(order), out).ok(),
-            )
-        });
-        print_table(&format!("draw, {name}"), draws);
-        let undraws = files.iter().map(|(order, drawing)| {
-            times(
-                order,
-                |out| panel::undraw_into(black_box(drawing), out).ok(),
-                |out| second::undraw(black_box(drawing), out).ok(),
-            )
-        });
-        print_table(&format!("undraw, {name}"), undraws);
+        let files = SIZES.map(|n| Files::new(n, runs));
+        print_table(&format!("draw, {name}"), files.iter().map(Files::draws));
+        print_table(&format!("undraw, {name}"), files.iter().map(Files::undraws));
     }
 }
 
-/// The order file and the drawing file of a random order.
-fn files(n: u16, style: Style) -> (Vec<u8>, Vec<u8>) {
-    let order = order(n, style, &mut Random::new(1)).bytes();
-    let mut drawing = vec![0; panel::drawing_length(n.into())];
-    assert_eq!(second::draw(&order, &mut drawing), Ok(drawing.len()));
-    (order, drawing)
+/// An order file and its two drawing files.
+struct Files {
+    order: Vec<u8>,
+    one_bend: Vec<u8>,
+    straight: Vec<u8>,
+}
+
+impl Files {
+    /// The files of a random order.
+    fn new(n: u16, runs: Runs) -> Self {
+        let order = order(n, runs, &mut Random::new(1)).bytes();
+        let [one_bend, straight] = STYLES.map(|style| {
+            let drawing = order_file::read(style, &order).expect("an accepted order");
+            drawing_file::write(&drawing).expect("a finished drawing")
+        });
+        Files {
+            order,
+            one_bend,
+            straight,
+        }
+    }
+
+    /// The times of drawing the order file.
+    fn draws(&self) -> Times {
+        let order = &self.order;
+        let calls: [&dyn Call; 4] = [
+            &|out| panel::draw_into(black_box(order), out).ok(),
+            &|out| straight::draw_into(black_box(order), out).ok(),
+            &|out| second::draw(Style::OneBend, black_box(order), out).ok(),
+            &|out| second::draw(Style::Straight, black_box(order), out).ok(),
+        ];
+        times(calls, [&self.one_bend, &self.straight])
+    }
+
+    /// The times of reading the drawing files back.
+    fn undraws(&self) -> Times {
+        let [bent, unbent] = [&self.one_bend, &self.straight];
+        let calls: [&dyn Call; 4] = [
+            &|out| panel::undraw_into(black_box(bent), out).ok(),
+            &|out| straight::undraw_into(black_box(unbent), out).ok(),
+            &|out| second::undraw(Style::OneBend, black_box(bent), out).ok(),
+            &|out| second::undraw(Style::Straight, black_box(unbent), out).ok(),
+        ];
+        times(calls, [&self.order, &self.order])
+    }
 }
 
 /// A call that writes into a buffer and gives the number of bytes.
@@ -58,29 +87,35 @@ struct Time {
     middle: f64,
 }
 
-/// The times of both calls, which must give the same output.
-fn times(output: &[u8], proved: impl Call, second: impl Call) -> [Time; 2] {
-    let mut out = vec![0; output.len()];
-    for call in [&proved as &dyn Call, &second] {
+/// The times of both styles by the proved library, then by the second implementation.
+type Times = [[Time; 2]; 2];
+
+/// The times of four calls in that order, which must give the output of their style.
+fn times(calls: [&dyn Call; 4], outputs: [&[u8]; 2]) -> Times {
+    let longest = outputs.map(<[u8]>::len).into_iter().max();
+    let mut out = vec![0; longest.unwrap_or(0)];
+    for (call, output) in calls.iter().zip(outputs.iter().cycle()) {
         assert_eq!(call(&mut out), Some(output.len()));
-        assert_eq!(out, output);
+        assert_eq!(out[..output.len()], **output);
     }
-    let mut batches = [Vec::new(), Vec::new()];
+    let mut batches = [(); 4].map(|()| Vec::new());
     for _ in 0..BATCHES {
-        batches[0].push(batch(&proved, &mut out));
-        batches[1].push(batch(&second, &mut out));
+        for (times, call) in batches.iter_mut().zip(calls) {
+            times.push(batch(call, &mut out));
+        }
     }
-    batches.map(|mut times| {
+    let [one, two, three, four] = batches.map(|mut times| {
         times.sort_by(f64::total_cmp);
         Time {
             best: times[0],
             middle: times[BATCHES / 2],
         }
-    })
+    });
+    [[one, two], [three, four]]
 }
 
 /// Microseconds of one call, by the mean of a batch.
-fn batch(call: &impl Call, out: &mut [u8]) -> f64 {
+fn batch(call: &dyn Call, out: &mut [u8]) -> f64 {
     let started = Instant::now();
     let mut calls = 0;
     while calls == 0 || started.elapsed() < BATCH {
@@ -90,21 +125,32 @@ fn batch(call: &impl Call, out: &mut [u8]) -> f64 {
     started.elapsed().as_secs_f64() * 1e6 / f64::from(calls)
 }
 
-/// Times, the ratio, and the growth from one n to the next.
-fn print_table(title: &str, times: impl Iterator<Item = [Time; 2]>) {
+/// A row for each n and style; the last column is the ratio of the proved library's quickest batches.
+fn print_table(title: &str, times: impl Iterator<Item = Times>) {
     println!("\n{title}");
-    println!("     n               proved  growth               second  growth  second/proved");
-    let mut before: Option<[Time; 2]> = None;
+    println!(
+        "     n    style               proved  growth               second  growth  \
+         second/proved  straight/one-bend"
+    );
+    let mut before = None;
     for (n, now) in SIZES.into_iter().zip(times) {
-        let sides = [0, 1].map(|side| {
-            let Time { best, middle } = now[side];
-            let growth = before.map_or(String::new(), |before| {
-                format!("x{:.1}", best / before[side].best)
-            });
-            format!("{best:9.2} ({middle:8.2}) {growth:>7}")
-        });
-        let ratio = now[1].best / now[0].best;
-        println!("{n:6} {} {} {ratio:14.1}", sides[0], sides[1]);
+        let [one_bend, straight] = [0, 1].map(|style| row(style, &now, before.as_ref()));
+        let ratio = now[0][1].best / now[0][0].best;
+        println!("{n:6} one-bend {one_bend}");
+        println!("{n:6} straight {straight} {ratio:18.2}");
         before = Some(now);
     }
+}
+
+/// The times of a style on both sides, each with the growth from the n before, and their ratio.
+fn row(style: usize, now: &Times, before: Option<&Times>) -> String {
+    let [proved, second] = [0, 1].map(|side| {
+        let Time { best, middle } = now[side][style];
+        let growth = before.map_or(String::new(), |before| {
+            format!("x{:.1}", best / before[side][style].best)
+        });
+        format!("{best:9.2} ({middle:8.2}) {growth:>7}")
+    });
+    let ratio = now[1][style].best / now[0][style].best;
+    format!("{proved} {second} {ratio:14.1}")
 }

@@ -1,6 +1,6 @@
 //! Lists of adding calls.
 
-use crate::raw::{panel_calls, SHORT_ANSWERS};
+use crate::raw::{RunCalls, ONE_BEND, SHORT_ANSWERS};
 use crate::refusal::Refusal;
 use crate::sizes::{drawing_length, ANSWER_WORDS, FEWEST_POINTS, MOST_POINTS};
 
@@ -38,6 +38,16 @@ pub struct Called {
 /// # Panics
 /// If a call has more than 65,535 entries.
 pub fn calls<Entries: AsRef<[u16]>>(n: usize, calls: &[Entries]) -> Result<Called, Refusal> {
+    run(ONE_BEND.calls, drawing_length, n, calls)
+}
+
+/// The same by a function of the library, with the length of a drawing file by n.
+pub(crate) fn run<Entries: AsRef<[u16]>>(
+    function: RunCalls,
+    drawing_length: fn(usize) -> usize,
+    n: usize,
+    calls: &[Entries],
+) -> Result<Called, Refusal> {
     let mut words = Vec::new();
     for call in calls {
         let entries = call.as_ref();
@@ -46,7 +56,7 @@ pub fn calls<Entries: AsRef<[u16]>>(n: usize, calls: &[Entries]) -> Result<Calle
     }
     let mut answers = vec![0; ANSWER_WORDS * calls.len()];
     let mut drawing = vec![0; drawing_length(n.clamp(FEWEST_POINTS, MOST_POINTS))];
-    let written = calls_in_words(n, &words, &mut answers, &mut drawing)?;
+    let written = run_in_words(function, n, &words, &mut answers, &mut drawing)?;
     Ok(Called {
         answers: answers.chunks(ANSWER_WORDS).map(answer).collect(),
         drawing: written.map(|length| {
@@ -89,10 +99,21 @@ pub fn calls_in_words(
     answers: &mut [u16],
     out: &mut [u8],
 ) -> Result<Result<usize, Refusal>, Refusal> {
+    run_in_words(ONE_BEND.calls, n, calls, answers, out)
+}
+
+/// The same by a function of the library.
+pub(crate) fn run_in_words(
+    function: RunCalls,
+    n: usize,
+    calls: &[u16],
+    answers: &mut [u16],
+    out: &mut [u8],
+) -> Result<Result<usize, Refusal>, Refusal> {
     let mut refusal = [0; 3];
     // SAFETY: pointers and lengths are those of borrowed slices.
     let written = unsafe {
-        panel_calls(
+        function(
             n,
             calls.as_ptr(),
             calls.len(),

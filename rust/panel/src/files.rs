@@ -1,11 +1,8 @@
 //! Order files to drawing files and back.
 
-use crate::raw::{panel_draw, panel_undraw, Words};
+use crate::raw::{Convert, ONE_BEND};
 use crate::refusal::{given, Refusal};
 use crate::sizes::{LONGEST_DRAWING, LONGEST_ORDER};
-
-/// A function of the library that reads one file and writes another.
-type Convert = unsafe extern "C" fn(*const u8, usize, *mut u8, usize, *mut Words) -> u64;
 
 /// The drawing file of an order file. A line's last field there is 0 for a guide, 1 for a plain line
 /// and 2 for a feeder.
@@ -22,17 +19,17 @@ type Convert = unsafe extern "C" fn(*const u8, usize, *mut u8, usize, *mut Words
 /// # Ok::<(), panel::Refusal>(())
 /// ```
 pub fn draw(order: &[u8]) -> Result<Vec<u8>, Refusal> {
-    converted(panel_draw, order, LONGEST_DRAWING)
+    converted(ONE_BEND.draw, order, LONGEST_DRAWING)
 }
 
-/// The order file of a drawing file.
+/// The order file of a drawing file. A straight one's mark is refused with 2.
 ///
 /// ```
 /// let cut_off = panel::undraw(b"DH\0\x03");
 /// assert_eq!(cut_off, Err(panel::Refusal { number: 1, place: 0 }));
 /// ```
 pub fn undraw(drawing: &[u8]) -> Result<Vec<u8>, Refusal> {
-    converted(panel_undraw, drawing, LONGEST_ORDER)
+    converted(ONE_BEND.undraw, drawing, LONGEST_ORDER)
 }
 
 /// Draws an order file into an output, with no allocation; gives the number of bytes written,
@@ -46,7 +43,7 @@ pub fn undraw(drawing: &[u8]) -> Result<Vec<u8>, Refusal> {
 /// # Ok::<(), panel::Refusal>(())
 /// ```
 pub fn draw_into(order: &[u8], out: &mut [u8]) -> Result<usize, Refusal> {
-    convert(panel_draw, order, out)
+    convert(ONE_BEND.draw, order, out)
 }
 
 /// Writes the order file of a drawing file into an output, with no allocation; gives the number of
@@ -63,19 +60,23 @@ pub fn draw_into(order: &[u8], out: &mut [u8]) -> Result<usize, Refusal> {
 /// # Ok::<(), panel::Refusal>(())
 /// ```
 pub fn undraw_into(drawing: &[u8], out: &mut [u8]) -> Result<usize, Refusal> {
-    convert(panel_undraw, drawing, out)
+    convert(ONE_BEND.undraw, drawing, out)
 }
 
-/// Calls one of the two.
-fn convert(function: Convert, input: &[u8], out: &mut [u8]) -> Result<usize, Refusal> {
+/// Calls one of them.
+pub(crate) fn convert(function: Convert, input: &[u8], out: &mut [u8]) -> Result<usize, Refusal> {
     let (from, to) = (input.as_ptr(), out.as_mut_ptr());
     // SAFETY: pointers and lengths are those of borrowed slices.
     let written = given(|refusal| unsafe { function(from, input.len(), to, out.len(), refusal) })?;
     Ok(written as usize)
 }
 
-/// What one of the two writes, no longer than the longest file of its kind.
-fn converted(function: Convert, input: &[u8], longest: usize) -> Result<Vec<u8>, Refusal> {
+/// What one of them writes, no longer than the longest file of its kind.
+pub(crate) fn converted(
+    function: Convert,
+    input: &[u8],
+    longest: usize,
+) -> Result<Vec<u8>, Refusal> {
     let mut out = vec![0; longest];
     let length = convert(function, input, &mut out)?;
     out.truncate(length);

@@ -1,5 +1,8 @@
-//! One-bend panel drawings by the proved library: order files to drawing files and back, lists of
-//! adding calls, look-ups of points and lines, and cutter moves.
+//! Panel drawings by the proved library: order files to drawing files and back, lists of adding calls,
+//! look-ups of points and lines, and cutter moves.
+//!
+//! An order file can be drawn in two styles. The functions here draw lines with one bend at most; those
+//! of the same names in [`straight`] draw straight lines, as wish 2 of document 02 says.
 //!
 //! Every answer is a value or a [`Refusal`] with document 01's number and place. A refusal changes no
 //! byte of an output, and bytes past the written ones stay. Functions whose names begin with `calls`
@@ -58,6 +61,7 @@ mod moves;
 pub mod raw;
 mod refusal;
 mod sizes;
+pub mod straight;
 
 pub use calls::{calls, calls_in_words, Called, FEEDER, GUIDE};
 pub use files::{draw, draw_into, undraw, undraw_into};

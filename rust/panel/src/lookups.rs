@@ -1,9 +1,6 @@
 //! Look-ups: a point's place, a line, a cut line that ends at a point.
 
-use crate::raw::{
-    panel_calls_cut_line, panel_calls_line, panel_calls_point, panel_cut_line, panel_line,
-    panel_point, Words, FOUND,
-};
+use crate::raw::{CallsLookUp, OrderLookUp, FOUND, LINE_WORDS, ONE_BEND};
 use crate::refusal::{given_with, Refusal};
 
 /// A place in grid units; y points up.
@@ -18,7 +15,7 @@ pub struct Place {
 #[derive(Clone, Copy, Debug, PartialEq, Eq, Hash)]
 pub enum Bend {
     /// Line 1-2 only.
-    Straight,
+    None,
     /// Left port of the earlier point.
     Left(usize),
     /// Right port of the earlier point.
@@ -68,23 +65,7 @@ pub struct Line {
 }
 
 /// What a look-up returns, and the words that it puts into `seen`.
-type Seen<const WORDS: usize> = (u64, [u64; WORDS]);
-
-/// A look-up of the library, of an order file's drawing.
-type OfOrder<const WORDS: usize> =
-    unsafe extern "C" fn(*const u8, usize, usize, *mut [u64; WORDS], *mut Words) -> u64;
-
-/// The same of the drawing that a list of calls leaves.
-type OfCalls<const WORDS: usize> = unsafe extern "C" fn(
-    usize,
-    *const u16,
-    usize,
-    *mut u16,
-    usize,
-    usize,
-    *mut [u64; WORDS],
-    *mut Words,
-) -> u64;
+pub(crate) type Seen<const WORDS: usize> = (u64, [u64; WORDS]);
 
 /// The place of a point, from 1, of the drawing of an order file. Refused are what
 /// [`draw`](crate::draw) refuses, then 23 if there is no such point.
@@ -98,7 +79,7 @@ type OfCalls<const WORDS: usize> = unsafe extern "C" fn(
 /// # Ok::<(), panel::Refusal>(())
 /// ```
 pub fn point(order: &[u8], point: usize) -> Result<Place, Refusal> {
-    of_order(panel_point, order, point).map(place_seen)
+    of_order(ONE_BEND.point, order, point).map(place_seen)
 }
 
 /// A line, by number from 0, of the drawing of an order file. Refused are what
@@ -117,7 +98,7 @@ pub fn point(order: &[u8], point: usize) -> Result<Place, Refusal> {
 /// # Ok::<(), panel::Refusal>(())
 /// ```
 pub fn line(order: &[u8], number: usize) -> Result<Line, Refusal> {
-    of_order(panel_line, order, number).map(line_seen)
+    of_order(ONE_BEND.line, order, number).map(line_seen)
 }
 
 /// The number of a cut line, plain or feeder, that ends at a point, from 1, of the drawing of an
@@ -138,7 +119,7 @@ pub fn line(order: &[u8], number: usize) -> Result<Line, Refusal> {
 /// # Ok::<(), panel::Refusal>(())
 /// ```
 pub fn cut_line(order: &[u8], point: usize) -> Result<Option<usize>, Refusal> {
-    of_order(panel_cut_line, order, point).map(cut_line_seen)
+    of_order(ONE_BEND.cut_line, order, point).map(cut_line_seen)
 }
 
 /// [`point`] of the drawing that a list of calls leaves, in which points may be missing; calls and
@@ -161,7 +142,7 @@ pub fn calls_point(
     answers: &mut [u16],
     point: usize,
 ) -> Result<Place, Refusal> {
-    of_calls(panel_calls_point, n, calls, answers, point).map(place_seen)
+    of_calls(ONE_BEND.calls_point, n, calls, answers, point).map(place_seen)
 }
 
 /// [`line`](fn@line) of the drawing that a list of calls leaves, as in [`calls_point`].
@@ -182,7 +163,7 @@ pub fn calls_line(
     answers: &mut [u16],
     number: usize,
 ) -> Result<Line, Refusal> {
-    of_calls(panel_calls_line, n, calls, answers, number).map(line_seen)
+    of_calls(ONE_BEND.calls_line, n, calls, answers, number).map(line_seen)
 }
 
 /// [`cut_line`] of the drawing that a list of calls leaves, as in [`calls_point`].
@@ -202,12 +183,12 @@ pub fn calls_cut_line(
     answers: &mut [u16],
     point: usize,
 ) -> Result<Option<usize>, Refusal> {
-    of_calls(panel_calls_cut_line, n, calls, answers, point).map(cut_line_seen)
+    of_calls(ONE_BEND.calls_cut_line, n, calls, answers, point).map(cut_line_seen)
 }
 
 /// Looks a number up in an order file's drawing.
-fn of_order<const WORDS: usize>(
-    look_up: OfOrder<WORDS>,
+pub(crate) fn of_order<const WORDS: usize>(
+    look_up: OrderLookUp<WORDS>,
     order: &[u8],
     number: usize,
 ) -> Result<Seen<WORDS>, Refusal> {
@@ -218,8 +199,8 @@ fn of_order<const WORDS: usize>(
 }
 
 /// Looks a number up in the drawing that a list of calls leaves.
-fn of_calls<const WORDS: usize>(
-    look_up: OfCalls<WORDS>,
+pub(crate) fn of_calls<const WORDS: usize>(
+    look_up: CallsLookUp<WORDS>,
     n: usize,
     calls: &[u16],
     answers: &mut [u16],
@@ -241,7 +222,7 @@ fn of_calls<const WORDS: usize>(
 }
 
 /// The place in `seen`.
-fn place_seen((_, [x, y]): Seen<2>) -> Place {
+pub(crate) fn place_seen((_, [x, y]): Seen<2>) -> Place {
     Place {
         x: x as u16,
         y: y as u16,
@@ -249,13 +230,13 @@ fn place_seen((_, [x, y]): Seen<2>) -> Place {
 }
 
 /// The line in `seen`.
-fn line_seen((_, [later, earlier, bend, port, x, y, kind]): Seen<7>) -> Line {
+fn line_seen((_, [later, earlier, bend, port, x, y, kind]): Seen<LINE_WORDS>) -> Line {
     let port = port as usize;
     Line {
         later: later as usize,
         earlier: earlier as usize,
         bend: match bend {
-            0 => Bend::Straight,
+            0 => Bend::None,
             1 => Bend::Left(port),
             2 => Bend::Right(port),
             3 => Bend::Middle(port),
@@ -265,16 +246,21 @@ fn line_seen((_, [later, earlier, bend, port, x, y, kind]): Seen<7>) -> Line {
             x: x as u16,
             y: y as u16,
         },
-        kind: match kind {
-            0 => Kind::Guide,
-            1 => Kind::Plain,
-            2 => Kind::Feeder,
-            _ => unreachable!("the library has no line of kind {kind}"),
-        },
+        kind: kind_seen(kind),
+    }
+}
+
+/// A line's own kind in `seen`.
+pub(crate) fn kind_seen(kind: u64) -> Kind {
+    match kind {
+        0 => Kind::Guide,
+        1 => Kind::Plain,
+        2 => Kind::Feeder,
+        _ => unreachable!("the library has no line of kind {kind}"),
     }
 }
 
 /// The number in `seen`, if a line was found.
-fn cut_line_seen((found, [number]): Seen<1>) -> Option<usize> {
+pub(crate) fn cut_line_seen((found, [number]): Seen<1>) -> Option<usize> {
     (found == FOUND).then_some(number as usize)
 }

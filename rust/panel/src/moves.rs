@@ -1,6 +1,6 @@
 //! Cutter moves.
 
-use crate::raw::{panel_calls_move, panel_move, Words};
+use crate::raw::{CallsMove, OrderMove, Words, ONE_BEND};
 use crate::refusal::{given_with, Refusal};
 
 /// Document 01: "a tool is three whole numbers of eighths of a millimetre, pitch 1 to 80, depth 1 to
@@ -51,6 +51,16 @@ fn given_move(call: impl FnOnce(&mut [f32; 2], &mut Words) -> u64) -> Result<Mov
 /// # Ok::<(), panel::Refusal>(())
 /// ```
 pub fn move_at(order: &[u8], tool: Tool, number: usize) -> Result<Move, Refusal> {
+    move_of_order(ONE_BEND.order_move, order, tool, number)
+}
+
+/// The same by a function of the library.
+pub(crate) fn move_of_order(
+    function: OrderMove,
+    order: &[u8],
+    tool: Tool,
+    number: usize,
+) -> Result<Move, Refusal> {
     let (from, length) = (order.as_ptr(), order.len());
     let Tool {
         pitch,
@@ -59,7 +69,7 @@ pub fn move_at(order: &[u8], tool: Tool, number: usize) -> Result<Move, Refusal>
     } = tool;
     // SAFETY: pointer and length are those of a borrowed slice.
     given_move(|at, refusal| unsafe {
-        panel_move(from, length, pitch, depth, clearance, number, at, refusal)
+        function(from, length, pitch, depth, clearance, number, at, refusal)
     })
 }
 
@@ -84,9 +94,21 @@ pub fn calls_move_at(
     tool: Tool,
     number: usize,
 ) -> Result<Move, Refusal> {
+    move_of_calls(ONE_BEND.calls_move, n, calls, answers, tool, number)
+}
+
+/// The same by a function of the library.
+pub(crate) fn move_of_calls(
+    function: CallsMove,
+    n: usize,
+    calls: &[u16],
+    answers: &mut [u16],
+    tool: Tool,
+    number: usize,
+) -> Result<Move, Refusal> {
     // SAFETY: pointers and lengths are those of borrowed slices.
     given_move(|at, refusal| unsafe {
-        panel_calls_move(
+        function(
             n,
             calls.as_ptr(),
             calls.len(),
@@ -123,9 +145,19 @@ pub fn calls_move_at(
 /// # Ok::<(), panel::Refusal>(())
 /// ```
 pub fn moves(order: &[u8], tool: Tool) -> Result<Moves<'_>, Refusal> {
-    match move_at(order, tool, 0) {
+    moves_of_order(ONE_BEND.order_move, order, tool)
+}
+
+/// The same by a function of the library.
+pub(crate) fn moves_of_order(
+    function: OrderMove,
+    order: &[u8],
+    tool: Tool,
+) -> Result<Moves<'_>, Refusal> {
+    match move_of_order(function, order, tool, 0) {
         Err(refusal) if refusal.number != 23 => Err(refusal),
         _ => Ok(Moves {
+            function,
             order,
             tool,
             number: 0,
@@ -133,9 +165,10 @@ pub fn moves(order: &[u8], tool: Tool) -> Result<Moves<'_>, Refusal> {
     }
 }
 
-/// The moves of an order file, one after another.
+/// The moves of an order file in one style, one after another.
 #[derive(Clone, Debug)]
 pub struct Moves<'a> {
+    function: OrderMove,
     order: &'a [u8],
     tool: Tool,
     number: usize,
@@ -146,7 +179,7 @@ impl Iterator for Moves<'_> {
 
     /// The next move, none after the last.
     fn next(&mut self) -> Option<Move> {
-        let found = move_at(self.order, self.tool, self.number).ok()?;
+        let found = move_of_order(self.function, self.order, self.tool, self.number).ok()?;
         self.number += 1;
         Some(found)
     }

@@ -2,9 +2,9 @@
 
 use std::f64::consts::TAU;
 
-use panel::{Bend, Kind, Line, Place};
+use panel::{Kind, Place};
 
-use crate::drawing::Drawing;
+use crate::drawing::{Drawing, Line};
 
 /// Picture units per grid unit.
 const UNIT: f64 = 24.0;
@@ -102,12 +102,16 @@ impl Canvas<'_> {
         )
     }
 
-    /// A line from its later point over its bend to its earlier point, with its tick and its title.
+    /// A line from its later point, over its bend if it has one, to its earlier point, with its tick and
+    /// its title.
     fn line(&self, number: usize, line: &Line) -> String {
-        let (x1, y1) = self.at(self.drawing.place(line.later));
-        let (x2, y2) = self.at(line.bend_place);
-        let (x3, y3) = self.at(self.drawing.place(line.earlier));
-        let points = format!("{x1},{y1} {x2},{y2} {x3},{y3}");
+        let [later, earlier] = [line.later, line.earlier].map(|end| self.drawing.place(end));
+        let places = [Some(later), line.bend, Some(earlier)];
+        let points = places.into_iter().flatten().map(|place| {
+            let (x, y) = self.at(place);
+            format!("{x},{y}")
+        });
+        let points = points.collect::<Vec<String>>().join(" ");
         let stroke = |class: &str| format!("<polyline class=\"{class}\" points=\"{points}\"/>");
         let (kind, strokes) = match line.kind {
             Kind::Guide => ("guide", stroke("guide")),
@@ -116,21 +120,18 @@ impl Canvas<'_> {
         };
         let near = stroke("near");
         let Line { later, earlier, .. } = line;
-        let tick = self.tick(line);
+        let tick = line.bend.map(|bend| self.tick(line, bend));
+        let tick = tick.unwrap_or_default();
         format!(
             "<g class=\"line\"><title>line {number}: {later} to {earlier}, {kind}</title>\
              {near}{strokes}{tick}</g>\n"
         )
     }
 
-    /// A tick at a bend, across the direction from the later to the earlier point; line 1-2 has no
-    /// bend and no tick.
-    fn tick(&self, line: &Line) -> String {
-        if line.bend == Bend::Straight {
-            return String::new();
-        }
+    /// A tick at a line's bend, across the direction from the later to the earlier point.
+    fn tick(&self, line: &Line, bend: Place) -> String {
         let (x1, y1) = self.at(self.drawing.place(line.later));
-        let (x, y) = self.at(line.bend_place);
+        let (x, y) = self.at(bend);
         let (x3, y3) = self.at(self.drawing.place(line.earlier));
         let length = (x3 - x1).hypot(y3 - y1);
         let dx = TICK * (y3 - y1) / length;

@@ -3,8 +3,9 @@
 use std::io::Write;
 use std::process::{Command, Output, Stdio};
 
-use second::generate::{order, Order, Random, Style};
-use second::{order_file, Kind};
+use panel::straight;
+use second::generate::{order, Order, Random, Runs};
+use second::{order_file, Drawing, Kind, Style};
 
 /// K4 of document 01, its lines 4 and 7 guides.
 fn k4() -> Order {
@@ -29,9 +30,14 @@ fn drawing_file(order: &Order) -> Vec<u8> {
     panel::draw(&order.bytes()).unwrap()
 }
 
+/// The straight drawing file of an order.
+fn straight_file(order: &Order) -> Vec<u8> {
+    straight::draw(&order.bytes()).unwrap()
+}
+
 /// A drawing file of 40 points.
 fn forty() -> Vec<u8> {
-    drawing_file(&order(40, Style::Mixed, &mut Random::new(40)))
+    drawing_file(&order(40, Runs::Mixed, &mut Random::new(40)))
 }
 
 /// What the program gives for arguments, and bytes on its standard input.
@@ -183,12 +189,70 @@ fn every_scale_gives_the_same_picture() {
     }
 }
 
-// The largest drawing: every point and every line, by the second implementation's numbers.
+// A straight drawing: every line from end to end, kinds and titles as in the other style, and no tick.
+#[test]
+fn a_straight_drawing() {
+    let text = picture(&straight_file(&k4_with_feeders()));
+    assert!(text.contains("5 points, scale 1, width 6, height 3"));
+    for (part, times) in [
+        ("<circle", 5),
+        ("<g class=\"line\">", 9),
+        ("class=\"near\"", 9),
+        ("class=\"plain\"", 5),
+        ("class=\"guide\"", 2),
+        ("class=\"feeder\"", 2),
+        ("class=\"between\"", 2),
+        ("class=\"tick\"", 0),
+    ] {
+        assert_eq!(count(&text, part), times, "{part}");
+    }
+    // Points 1 (0,0), 2 (6,0), 3 (4,1), 4 (3,2), 5 (3,3), from (48,120) up; line 3-2 is a feeder.
+    for (title, class, points) in [
+        ("line 0: 2 to 1, plain", "plain", "192,120 48,120"),
+        ("line 2: 3 to 2, feeder", "feeder", "144,96 192,120"),
+        ("line 7: 5 to 3, guide", "guide", "120,48 144,96"),
+    ] {
+        let part = format!(
+            "<title>{title}</title><polyline class=\"near\" points=\"{points}\"/>\
+             <polyline class=\"{class}\" points=\"{points}\"/>"
+        );
+        assert_eq!(count(&text, &part), 1, "{part}");
+    }
+    assert_eq!(count(&text, "<title>point 4 at (3,2)</title>"), 1);
+}
+
+// The example of the tree: the same net drawn straight.
+#[test]
+fn the_straight_example_gives_its_picture() {
+    let path = concat!(
+        env!("CARGO_MANIFEST_DIR"),
+        "/../../examples/feeders.straight"
+    );
+    let text = picture(&std::fs::read(path).unwrap());
+    assert!(text.contains("5 points, scale 1, width 6, height 3"));
+    assert_eq!(count(&text, "class=\"feeder\""), 4);
+    assert_eq!(count(&text, "class=\"guide\""), 2);
+    assert_eq!(count(&text, "class=\"tick\""), 0);
+}
+
+// The largest drawing of each style: every point and every line, by the second implementation's
+// numbers.
 #[test]
 fn a_drawing_of_1024_points() {
-    let order = order(1024, Style::Short, &mut Random::new(1024));
+    let order = order(1024, Runs::Short, &mut Random::new(1024));
     let text = picture(&drawing_file(&order));
-    let drawing = order_file::read(&order.bytes()).unwrap();
+    let drawing = order_file::read(Style::OneBend, &order.bytes()).unwrap();
+    has_all_titles(&text, &drawing);
+    assert_eq!(count(&text, "class=\"tick\""), 3065);
+
+    let text = picture(&straight_file(&order));
+    let drawing = order_file::read(Style::Straight, &order.bytes()).unwrap();
+    has_all_titles(&text, &drawing);
+    assert_eq!(count(&text, "class=\"tick\""), 0);
+}
+
+/// A picture has the titles of a drawing's lines and points, and no other.
+fn has_all_titles(text: &str, drawing: &Drawing) {
     let mut titles = text.split("<title>").skip(1);
     for (number, line) in drawing.lines.iter().enumerate() {
         let kind = match line.kind {
@@ -206,7 +270,6 @@ fn a_drawing_of_1024_points() {
         assert!(titles.next().unwrap().starts_with(&title), "{title}");
     }
     assert_eq!(titles.next(), None);
-    assert_eq!(count(&text, "class=\"tick\""), 3065);
 }
 
 // A path argument.
@@ -224,8 +287,12 @@ fn a_path_gives_the_same_picture() {
 fn a_broken_file_is_refused() {
     let mut bytes = forty();
     bytes.push(0);
+    let cut_short = &straight_file(&k4())[..100];
+    let no_mark = [b"DX", &straight_file(&k4())[2..]].concat();
     let wrong_calls = [
         (run(&[], &bytes), "picture: refused 10 at 1620\n"),
+        (run(&[], cut_short), "picture: refused 1 at 96\n"),
+        (run(&[], &no_mark), "picture: refused 2 at 0\n"),
         (
             run(&["one", "two"], &[]),
             "picture: usage: picture [drawing file]\n",

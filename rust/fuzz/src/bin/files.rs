@@ -1,4 +1,4 @@
-//! Draws and reads back what libFuzzer hands in, on both sides; a difference aborts.
+//! Draws and reads back what libFuzzer hands in, on both sides and in both styles; a difference aborts.
 #![no_main]
 
 #[path = "../../../panel/tests/compare/both.rs"]
@@ -8,6 +8,7 @@ use std::slice;
 
 use both::{compare, Answer, Way};
 use second::generate::order_by;
+use second::{Style, STYLES};
 
 /// Bytes that choose runs, two a point.
 const CHOICES: usize = 128;
@@ -20,26 +21,30 @@ const CHOICES: usize = 128;
 pub unsafe extern "C" fn LLVMFuzzerTestOneInput(data: *const u8, size: usize) -> i32 {
     // SAFETY: as the function asks.
     let input = unsafe { slice::from_raw_parts(data, size) };
-    comes_back(Way::Draw, Way::Undraw, input);
-    comes_back(Way::Undraw, Way::Draw, input);
-    if !input.starts_with(b"HD") && !input.starts_with(b"DH") {
-        let choices = &input[..size.min(CHOICES)];
-        comes_back(Way::Draw, Way::Undraw, &order_by(choices).bytes());
+    let marks = [b"HD", b"DH", b"DS"];
+    let no_file = !marks.iter().any(|mark| input.starts_with(*mark));
+    let chosen = no_file.then(|| order_by(&input[..size.min(CHOICES)]).bytes());
+    for style in STYLES {
+        comes_back(style, Way::Draw, Way::Undraw, input);
+        comes_back(style, Way::Undraw, Way::Draw, input);
+        if let Some(order) = &chosen {
+            comes_back(style, Way::Draw, Way::Undraw, order);
+        }
     }
     0
 }
 
 /// Both sides answer alike, also with a byte too few for the output, and an accepted file comes back
 /// the other way.
-fn comes_back(way: Way, other: Way, input: &[u8]) {
-    if let Ok(output) = same(way, input, way.room(input)) {
-        let back = same(other, &output, other.room(&output));
+fn comes_back(style: Style, way: Way, other: Way, input: &[u8]) {
+    if let Ok(output) = same(style, way, input, way.room(input)) {
+        let back = same(style, other, &output, other.room(&output));
         assert_eq!(back.as_deref(), Ok(input));
-        assert!(same(way, input, output.len() - 1).is_err());
+        assert!(same(style, way, input, output.len() - 1).is_err());
     }
 }
 
 /// The answer of both sides with an output of so many bytes.
-fn same(way: Way, input: &[u8], room: usize) -> Answer {
-    compare(way, input, room).unwrap_or_else(|why| panic!("{why}\n  for {input:02x?}"))
+fn same(style: Style, way: Way, input: &[u8], room: usize) -> Answer {
+    compare(style, way, input, room).unwrap_or_else(|why| panic!("{why}\n  for {input:02x?}"))
 }

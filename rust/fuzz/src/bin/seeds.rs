@@ -1,21 +1,24 @@
-//! Writes order files and drawing files of every style into a folder.
+//! Writes order files with runs of every sort, and their drawing files in both styles, into a folder.
 
 use std::path::Path;
 use std::{env, fs, io};
 
-use second::generate::{order, Random, STYLES};
+use second::generate::{order, Random, RUNS};
+use second::{drawing_file, order_file, STYLES};
 
 /// The folder is the one argument.
 fn main() -> io::Result<()> {
     let folder = env::args().nth(1).expect("usage: seeds FOLDER");
     let folder = Path::new(&folder);
-    for style in STYLES {
+    for runs in RUNS {
         for n in [3, 4, 5, 6, 8, 12, 20] {
-            let order = order(n, style, &mut Random::new(n.into())).bytes();
-            let mut drawing = vec![0; panel::drawing_length(n.into())];
-            second::draw(&order, &mut drawing).map_err(io::Error::other)?;
-            fs::write(folder.join(format!("{style:?}-{n}.order")), order)?;
-            fs::write(folder.join(format!("{style:?}-{n}.drawing")), drawing)?;
+            let order = order(n, runs, &mut Random::new(n.into())).bytes();
+            for style in STYLES {
+                let drawing = order_file::read(style, &order).map_err(io::Error::other)?;
+                let file = drawing_file::write(&drawing).map_err(io::Error::other)?;
+                fs::write(folder.join(format!("{runs:?}-{n}-{style:?}.drawing")), file)?;
+            }
+            fs::write(folder.join(format!("{runs:?}-{n}.order")), order)?;
         }
     }
     Ok(())

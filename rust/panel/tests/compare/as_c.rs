@@ -1,26 +1,24 @@
 //! What C finds after a call: the three words of a refusal, and what a refusal leaves.
 
+use std::hint::black_box;
+
 use panel::raw::{
-    panel_calls, panel_calls_cut_line, panel_calls_line, panel_calls_move, panel_calls_point,
-    panel_cut_line, panel_draw, panel_line, panel_point, panel_undraw, Words, FOUND, NONE,
-    SHORT_ANSWERS, SHORT_OUT,
+    CallsMove, Convert, Functions, RunCalls, Words, FOUND, NONE, ONE_BEND, SHORT_ANSWERS,
+    SHORT_OUT, STRAIGHT,
 };
-use panel::{drawing_length, Refusal, Tool};
-use second::generate::{calls, order, Random, Style, STYLES};
-use second::{order_file, Drawing};
+use panel::{Refusal, Tool};
+use second::generate::{calls, order, Random, Runs, RUNS};
+use second::{order_file, Drawing, Style};
 
 use crate::both::refusal;
-use crate::calls::{blank, second_drawing, words_of};
+use crate::calls::{blank, needed, second_drawing, words_of};
 use crate::lookups::{point_number, FAR};
 use crate::moves::{random_tool, second_move, with};
 use crate::orders::drawn;
-use crate::tally::{rounds, Tally};
+use crate::tally::{in_each_style, Tally};
 
 /// What stands in every word before a call; no point, line or place has this number.
 const BEFORE: u64 = 0xA5A5_A5A5_A5A5_A5A5;
-
-/// A function that reads one file and writes another.
-type Convert = unsafe extern "C" fn(*const u8, usize, *mut u8, usize, *mut Words) -> u64;
 
 /// The words of a refusal, the last of which says which buffer was short.
 pub fn words(refusal: Refusal, buffer: u64) -> Words {
@@ -48,58 +46,85 @@ fn wanted(drawing: &Result<Drawing, Refusal>, number: usize) -> [Result<bool, Wo
     ]
 }
 
-/// A look-up returns what is wanted, and fills `seen` exactly if it finds something.
+/// What a look-up fills, with words behind it that must stay.
+#[repr(C)]
+struct Seen<const WORDS: usize> {
+    seen: [u64; WORDS],
+    behind: [u64; 8],
+}
+
+/// A look-up returns what is wanted, and fills `seen`, no more, exactly if it finds something.
 fn leaves<const WORDS: usize>(
     wanted: Result<bool, Words>,
     look_up: impl FnOnce(&mut [u64; WORDS], &mut Words) -> u64,
 ) {
-    let (mut seen, mut refusal) = ([BEFORE; WORDS], [BEFORE; 3]);
-    let returned = look_up(&mut seen, &mut refusal);
+    let mut memory = Seen {
+        seen: [BEFORE; WORDS],
+        behind: [BEFORE; 8],
+    };
+    let mut refusal = [BEFORE; 3];
+    let returned = look_up(&mut memory.seen, &mut refusal);
     let told = match wanted {
         Ok(true) => (FOUND, [0; 3]),
         Ok(false) => (NONE, [0; 3]),
         Err(words) => (0, words),
     };
     assert_eq!((returned, refusal), told);
-    let filled = seen.map(|word| word != BEFORE);
+    let filled = memory.seen.map(|word| word != BEFORE);
     assert_eq!(filled, [wanted == Ok(true); WORDS]);
+    assert_eq!(black_box(memory).behind, [BEFORE; 8]);
 }
 
 // An order file's drawing, and refused order files.
 #[test]
 fn what_stands_in_seen() {
-    let mut tally = Tally::new("as C, `seen` after look-ups of an order file");
-    for style in STYLES {
+    let what = "as C, `seen` after look-ups of an order file";
+    in_each_style(what, |style, tally| match style {
+        Style::OneBend => seen_of_orders(style, &ONE_BEND, tally),
+        Style::Straight => seen_of_orders(style, &STRAIGHT, tally),
+    });
+}
+
+/// The same in one style.
+fn seen_of_orders<const LINE: usize>(style: Style, raw: &Functions<LINE>, tally: &mut Tally) {
+    for runs in RUNS {
         let mut random = Random::new(120_006);
-        let bytes = order(9, style, &mut random).bytes();
+        let bytes = order(9, runs, &mut random).bytes();
         let from = bytes.as_ptr();
         for length in [10, bytes.len() - 1, bytes.len()] {
-            let drawing = order_file::read(&bytes[..length]).map_err(refusal);
+            let drawing = order_file::read(style, &bytes[..length]).map_err(refusal);
             for number in (0..25).chain(FAR) {
                 let [point, line, cut_line] = wanted(&drawing, number);
                 // SAFETY: the length is at most the slice's, and the arrays are lent.
                 unsafe {
-                    leaves(point, |s, r| panel_point(from, length, number, s, r));
-                    leaves(line, |s, r| panel_line(from, length, number, s, r));
-                    leaves(cut_line, |s, r| panel_cut_line(from, length, number, s, r));
+                    leaves(point, |s, r| (raw.point)(from, length, number, s, r));
+                    leaves(line, |s, r| (raw.line)(from, length, number, s, r));
+                    leaves(cut_line, |s, r| (raw.cut_line)(from, length, number, s, r));
                 }
                 tally.count();
             }
         }
     }
-    tally.say();
 }
 
 // What a list of calls leaves, with answers that are too short and n out of range.
 #[test]
 fn what_stands_in_seen_after_calls() {
-    let mut tally = Tally::new("as C, `seen` after look-ups of lists of calls");
-    for round in 0..rounds(2000) {
+    let what = "as C, `seen` after look-ups of lists of calls";
+    in_each_style(what, |style, tally| match style {
+        Style::OneBend => seen_of_calls(style, &ONE_BEND, tally),
+        Style::Straight => seen_of_calls(style, &STRAIGHT, tally),
+    });
+}
+
+/// The same in one style.
+fn seen_of_calls<const LINE: usize>(style: Style, raw: &Functions<LINE>, tally: &mut Tally) {
+    for round in 0..tally.rounds(2000) {
         let mut random = Random::new(121_000 + round);
         let n = random.between(2, 9);
-        let list = words_of(&calls(n.max(3) as u16, Style::Mixed, &mut random));
+        let list = words_of(&calls(n.max(3) as u16, Runs::Mixed, &mut random));
         let mut answers = blank(random.below(2 * list.len() + 2));
-        let drawing = second_drawing(n, &list, &mut answers.clone());
+        let drawing = second_drawing(style, n, &list, &mut answers.clone());
         let number = random.below(3 * n);
         let [point, line, cut_line] = wanted(&drawing, number);
         let (from, length) = (list.as_ptr(), list.len());
@@ -107,27 +132,32 @@ fn what_stands_in_seen_after_calls() {
         // SAFETY: pointers and lengths are those of slices, and the arrays are lent.
         unsafe {
             leaves(point, |s, r| {
-                panel_calls_point(n, from, length, to, room, number, s, r)
+                (raw.calls_point)(n, from, length, to, room, number, s, r)
             });
             leaves(line, |s, r| {
-                panel_calls_line(n, from, length, to, room, number, s, r)
+                (raw.calls_line)(n, from, length, to, room, number, s, r)
             });
             leaves(cut_line, |s, r| {
-                panel_calls_cut_line(n, from, length, to, room, number, s, r)
+                (raw.calls_cut_line)(n, from, length, to, room, number, s, r)
             });
         }
         tally.count();
     }
-    tally.say();
 }
 
 /// What a list of calls makes the library say with a tool and a move's number; a refusal leaves `at`.
-fn move_words(n: usize, list: &[u16], answers: &mut [u16], tool: Tool, number: usize) -> Words {
+fn move_words(
+    function: CallsMove,
+    n: usize,
+    list: &[u16],
+    answers: &mut [u16],
+    (tool, number): (Tool, usize),
+) -> Words {
     let before = [0x7FC1_2345, 0x8000_0001].map(f32::from_bits);
     let (mut at, mut refusal) = (before, [BEFORE; 3]);
     // SAFETY: pointers and lengths are those of slices, and the arrays are ours.
     let kind = unsafe {
-        panel_calls_move(
+        function(
             n,
             list.as_ptr(),
             list.len(),
@@ -149,24 +179,28 @@ fn move_words(n: usize, list: &[u16], answers: &mut [u16], tool: Tool, number: u
 // Moves of lists of calls.
 #[test]
 fn what_stands_in_at_after_calls() {
-    let mut tally = Tally::new("as C, `at` after moves of lists of calls");
-    for round in 0..rounds(2000) {
-        let mut random = Random::new(122_000 + round);
-        let n = random.between(2, 9);
-        let list = words_of(&calls(n.max(3) as u16, Style::Mixed, &mut random));
-        let mut answers = blank(random.below(2 * list.len() + 2));
-        let pitch = random.below(4) as f32;
-        let (tool, number) = (
-            with(random_tool(&mut random), 0, pitch),
-            random.below(32 * n),
-        );
-        let second = second_drawing(n, &list, &mut answers.clone())
-            .and_then(|drawing| second_move(&drawing, tool, number));
-        let wanted = second.map_or_else(list_words, |_| [0; 3]);
-        assert_eq!(move_words(n, &list, &mut answers, tool, number), wanted);
-        tally.count();
-    }
-    tally.say();
+    let what = "as C, `at` after moves of lists of calls";
+    in_each_style(what, |style, tally| {
+        let function = match style {
+            Style::OneBend => ONE_BEND.calls_move,
+            Style::Straight => STRAIGHT.calls_move,
+        };
+        for round in 0..tally.rounds(2000) {
+            let mut random = Random::new(122_000 + round);
+            let n = random.between(2, 9);
+            let list = words_of(&calls(n.max(3) as u16, Runs::Mixed, &mut random));
+            let mut answers = blank(random.below(2 * list.len() + 2));
+            let pitch = random.below(4) as f32;
+            let tool = with(random_tool(&mut random), 0, pitch);
+            let number = random.below(32 * n);
+            let second = second_drawing(style, n, &list, &mut answers.clone())
+                .and_then(|drawing| second_move(&drawing, tool, number));
+            let wanted = second.map_or_else(list_words, |_| [0; 3]);
+            let told = move_words(function, n, &list, &mut answers, (tool, number));
+            assert_eq!(told, wanted);
+            tally.count();
+        }
+    });
 }
 
 /// Calls draw or undraw with an output of so many bytes.
@@ -181,35 +215,45 @@ fn convert(function: Convert, input: &[u8], room: usize) -> (u64, Words) {
 // Draw and undraw say that the output was short, and say nothing of it for other refusals.
 #[test]
 fn short_outputs() {
-    let mut tally = Tally::new("as C, short outputs");
-    for style in STYLES {
-        let (bytes, drawing) = drawn(&order(9, style, &mut Random::new(123_000)));
-        for (function, input, output) in [
-            (panel_draw as Convert, &bytes, &drawing),
-            (panel_undraw, &drawing, &bytes),
-        ] {
-            let needed = output.len();
-            for room in 0..needed {
-                let told = convert(function, input, room);
-                assert_eq!(told, (0, [24, 0, SHORT_OUT]));
-                tally.count();
-            }
-            let told = convert(function, input, needed);
-            assert_eq!(told, (needed as u64, [0; 3]));
-            let told = convert(function, &input[..1], 0);
-            assert_eq!(told, (0, [1, 0, 0]));
+    in_each_style("as C, short outputs", |style, tally| {
+        let (draw, undraw) = match style {
+            Style::OneBend => (ONE_BEND.draw, ONE_BEND.undraw),
+            Style::Straight => (STRAIGHT.draw, STRAIGHT.undraw),
+        };
+        for runs in RUNS {
+            let (bytes, drawing) = drawn(style, &order(9, runs, &mut Random::new(123_000)));
+            short_of(draw, &bytes, drawing.len(), tally);
+            short_of(undraw, &drawing, bytes.len(), tally);
         }
+    });
+}
+
+/// The same for one of the two.
+fn short_of(function: Convert, input: &[u8], needed: usize, tally: &mut Tally) {
+    for room in 0..needed {
+        let told = convert(function, input, room);
+        assert_eq!(told, (0, [24, 0, SHORT_OUT]));
+        tally.count();
     }
-    tally.say();
+    let told = convert(function, input, needed);
+    assert_eq!(told, (needed as u64, [0; 3]));
+    let told = convert(function, &input[..1], 0);
+    assert_eq!(told, (0, [1, 0, 0]));
 }
 
 /// What a list of calls makes the library say with answers of so many words and so many bytes.
-fn list_told(n: usize, list: &[u16], answer_words: usize, room: usize) -> Words {
+fn list_told(
+    function: RunCalls,
+    n: usize,
+    list: &[u16],
+    answer_words: usize,
+    room: usize,
+) -> Words {
     let (mut answers, mut out) = (blank(answer_words), vec![0; room]);
     let mut refusal = [BEFORE; 3];
     // SAFETY: pointers and lengths are those of slices, and the array is ours.
     unsafe {
-        panel_calls(
+        function(
             n,
             list.as_ptr(),
             list.len(),
@@ -226,8 +270,19 @@ fn list_told(n: usize, list: &[u16], answer_words: usize, room: usize) -> Words 
 // A list of calls says which of its two buffers was short: 3, then the answers, 22, the output.
 #[test]
 fn short_answers_and_short_outputs() {
-    let mut tally = Tally::new("as C, short answers and short outputs of lists of calls");
-    let needed = drawing_length(5);
+    let what = "as C, short answers and short outputs of lists of calls";
+    in_each_style(what, |style, tally| {
+        let needed = needed(style, 5);
+        let function = match style {
+            Style::OneBend => ONE_BEND.calls,
+            Style::Straight => STRAIGHT.calls,
+        };
+        short_lists(function, needed, tally);
+    });
+}
+
+/// The same by one function, for which so many bytes are enough for five points.
+fn short_lists(function: RunCalls, needed: usize, tally: &mut Tally) {
     for (n, list, finished) in [
         (5, &[2, 1, 3, 4, 1, 4, 3, 2][..], true),
         (5, &[2, 1, 3, 1, 9], false),
@@ -246,10 +301,10 @@ fn short_answers_and_short_outputs() {
                 } else {
                     [0; 3]
                 };
-                assert_eq!(list_told(n, list, answer_words, room), wanted);
+                let told = list_told(function, n, list, answer_words, room);
+                assert_eq!(told, wanted);
                 tally.count();
             }
         }
     }
-    tally.say();
 }

@@ -1,6 +1,7 @@
 //! One file on both sides: the proved library and the second implementation.
 
-use panel::Refusal;
+use panel::{straight, Refusal};
+use second::Style;
 
 /// Which way a file goes.
 #[derive(Clone, Copy, Debug, PartialEq, Eq)]
@@ -26,21 +27,23 @@ impl Way {
 }
 
 /// The answer of both sides to a file with an output of so many bytes, or how they differ.
-pub fn compare(way: Way, input: &[u8], room: usize) -> Result<Answer, String> {
-    let proved = answer(room, |out| match way {
-        Way::Draw => panel::draw_into(input, out),
-        Way::Undraw => panel::undraw_into(input, out),
+pub fn compare(style: Style, way: Way, input: &[u8], room: usize) -> Result<Answer, String> {
+    let proved = answer(room, |out| match (style, way) {
+        (Style::OneBend, Way::Draw) => panel::draw_into(input, out),
+        (Style::OneBend, Way::Undraw) => panel::undraw_into(input, out),
+        (Style::Straight, Way::Draw) => straight::draw_into(input, out),
+        (Style::Straight, Way::Undraw) => straight::undraw_into(input, out),
     });
     let second = answer(room, |out| {
         let answer = match way {
-            Way::Draw => second::draw(input, out),
-            Way::Undraw => second::undraw(input, out),
+            Way::Draw => second::draw(style, input, out),
+            Way::Undraw => second::undraw(style, input, out),
         };
         answer.map_err(refusal)
     });
     if proved != second {
         return Err(format!(
-            "{way:?} into {room} bytes\n  proved: {}\n  second: {}{}",
+            "{style:?}, {way:?} into {room} bytes\n  proved: {}\n  second: {}{}",
             shown(&proved),
             shown(&second),
             first_difference(&proved, &second)

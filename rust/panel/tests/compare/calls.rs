@@ -1,12 +1,13 @@
 //! Lists of calls, refused ones among them.
 
-use panel::{drawing_length, Refusal};
-use second::generate::{calls, Random, Style, STYLES};
-use second::{drawing_file, open, Drawing};
+use panel::Refusal;
+use second::generate::{calls, Random, Runs, RUNS};
+use second::{drawing_file, open, Drawing, Style};
 
 use crate::both::refusal;
+use crate::proved::proved;
 use crate::shrink::{keeps, list_keeps, Kept};
-use crate::tally::{rounds, Tally};
+use crate::tally::{in_each_style, Tally};
 
 /// What stands in an answer buffer before a call.
 const BLANK: u16 = 0xA5A5;
@@ -42,8 +43,13 @@ fn calls_of(mut words: &[u16]) -> Vec<&[u16]> {
 }
 
 /// What the second implementation draws by a list of calls, with the answers in the buffer.
-pub fn second_drawing(n: usize, words: &[u16], answers: &mut [u16]) -> Result<Drawing, Refusal> {
-    let mut drawing = open(n.try_into().unwrap_or(0)).map_err(refusal)?;
+pub fn second_drawing(
+    style: Style,
+    n: usize,
+    words: &[u16],
+    answers: &mut [u16],
+) -> Result<Drawing, Refusal> {
+    let mut drawing = open(style, n.try_into().unwrap_or(0)).map_err(refusal)?;
     let calls = calls_of(words);
     let Some(answers) = answers.get_mut(..2 * calls.len()) else {
         return Err(SHORT);
@@ -59,26 +65,18 @@ pub fn second_drawing(n: usize, words: &[u16], answers: &mut [u16]) -> Result<Dr
     Ok(drawing)
 }
 
-/// Its drawing file, in an output of so many bytes.
-fn second_file(drawing: &Drawing, out: &mut [u8]) -> Result<usize, Refusal> {
-    let file = drawing_file::write(drawing).map_err(refusal)?;
-    let target = out.get_mut(..file.len()).ok_or(SHORT)?;
-    target.copy_from_slice(&file);
-    Ok(file.len())
-}
-
 /// Both sides answer alike, and leave both buffers alike.
-pub fn agree(n: usize, words: &[u16], answer_words: usize, room: usize) -> Kept {
+pub fn agree(style: Style, n: usize, words: &[u16], answer_words: usize, room: usize) -> Kept {
     let pattern: Vec<u8> = (0..room).map(|at| at as u8 ^ 0x5A).collect();
     let (mut answers, mut out) = (blank(answer_words), pattern.clone());
-    let proved = panel::calls_in_words(n, words, &mut answers, &mut out);
+    let proved = (proved(style).calls_in_words)(n, words, &mut answers, &mut out);
     let (mut wanted_answers, mut wanted_out) = (blank(answer_words), pattern);
-    let second = second_drawing(n, words, &mut wanted_answers)
-        .map(|drawing| second_file(&drawing, &mut wanted_out));
+    let second = second_drawing(style, n, words, &mut wanted_answers)
+        .map(|drawing| drawing_file::write_into(&drawing, &mut wanted_out).map_err(refusal));
     if (proved, &answers, &out) != (second, &wanted_answers, &wanted_out) {
         let place = out.iter().zip(&wanted_out).position(|(a, b)| a != b);
         return Err(format!(
-            "calls with n = {n}, {answer_words} words of answers, {room} bytes\n  \
+            "{style:?} calls with n = {n}, {answer_words} words of answers, {room} bytes\n  \
              proved: {proved:?} {answers:?}\n  second: {second:?} {wanted_answers:?}\n  \
              first difference of outputs: {place:?}"
         ));
@@ -87,25 +85,26 @@ pub fn agree(n: usize, words: &[u16], answer_words: usize, room: usize) -> Kept 
 }
 
 /// The bytes that a drawing file of n points needs.
-fn needed(n: u16) -> usize {
-    drawing_length(n.into())
+pub fn needed(style: Style, n: u16) -> usize {
+    (proved(style).drawing_length)(n.into())
 }
 
-/// Random lists of every style, so many of each.
+/// Random lists with runs of every sort, so many of each.
 fn random_lists(what: &'static str, seed: u64, count: u64, least: usize, most: usize) {
-    let mut tally = Tally::new(what);
-    for round in 0..rounds(count) {
-        let mut random = Random::new(seed + round);
-        for style in STYLES {
-            let n = random.between(least, most) as u16;
-            let list = calls(n, style, &mut random);
-            list_keeps(&list, |list| {
-                agree(n.into(), &words_of(list), 2 * list.len() + 3, needed(n) + 5)
-            });
-            tally.count();
+    in_each_style(what, |style, tally| {
+        for round in 0..tally.rounds(count) {
+            let mut random = Random::new(seed + round);
+            for runs in RUNS {
+                let n = random.between(least, most) as u16;
+                let list = calls(n, runs, &mut random);
+                list_keeps(&list, |list| {
+                    let (answer_words, room) = (2 * list.len() + 3, needed(style, n) + 5);
+                    agree(style, n.into(), &words_of(list), answer_words, room)
+                });
+                tally.count();
+            }
         }
-    }
-    tally.say();
+    });
 }
 
 // Many short lists.
@@ -147,17 +146,24 @@ fn random_lists_of_1024_points() {
 // Words cut off at every length, answers and outputs of every length around the needed one.
 #[test]
 fn words_cut_off_and_buffers_of_all_lengths() {
-    let mut tally = Tally::new("calls, words cut off and buffers of all lengths");
+    let what = "calls, words cut off and buffers of all lengths";
+    in_each_style(what, all_lengths);
+}
+
+/// The same in one style.
+fn all_lengths(style: Style, tally: &mut Tally) {
+    let rounds = tally.rounds(100);
+    let needed = |n| needed(style, n);
     let mut keeps = |n: usize, words: &[u16], answer_words: usize, room: usize| {
-        let kept = agree(n, words, answer_words, room);
+        let kept = agree(style, n, words, answer_words, room);
         keeps(kept.map_err(|why| format!("{why}\n  for {words:?}")));
         tally.count();
     };
-    for round in 0..rounds(100) {
+    for round in 0..rounds {
         let mut random = Random::new(73_000 + round);
-        for style in STYLES {
+        for runs in RUNS {
             let n = random.between(3, 12) as u16;
-            let list = calls(n, style, &mut random);
+            let list = calls(n, runs, &mut random);
             let words = words_of(&list);
             for length in 0..words.len() {
                 keeps(n.into(), &words[..length], 2 * list.len(), needed(n));
@@ -177,61 +183,61 @@ fn words_cut_off_and_buffers_of_all_lengths() {
             }
         }
     }
-    tally.say();
 }
 
 // Words at random, small ones more often.
 #[test]
 fn random_words() {
-    let mut tally = Tally::new("calls, random words");
-    for round in 0..rounds(200_000) {
-        let mut random = Random::new(74_000 + round);
-        let n = random.between(2, 7);
-        let length = random.below(30);
-        let words: Vec<u16> = (0..length)
-            .map(|_| match random.below(16) {
-                0 => random.number() as u16,
-                1 => (random.below(4) << 14 | random.below(8)) as u16,
-                _ => random.below(6) as u16,
-            })
-            .collect();
-        list_keeps(&words, |words| agree(n, words, 2 * words.len(), 300));
-        tally.count();
-    }
-    tally.say();
+    in_each_style("calls, random words", |style, tally| {
+        for round in 0..tally.rounds(200_000) {
+            let mut random = Random::new(74_000 + round);
+            let n = random.between(2, 7);
+            let length = random.below(30);
+            let words: Vec<u16> = (0..length)
+                .map(|_| match random.below(16) {
+                    0 => random.number() as u16,
+                    1 => (random.below(4) << 14 | random.below(8)) as u16,
+                    _ => random.below(6) as u16,
+                })
+                .collect();
+            list_keeps(&words, |words| agree(style, n, words, 2 * words.len(), 300));
+            tally.count();
+        }
+    });
 }
 
 // Calls of many entries, and many calls.
 #[test]
 fn large_calls_and_long_lists() {
-    let mut tally = Tally::new("calls, up to 65,535 entries or calls");
-    for count in [1023, 1024, 1025, 32_768, 65_535] {
-        for entry in [0, 1, 3, 4, 0x8001, 0x4001, 0xC001, 0xC000] {
-            let mut large: Vec<u16> = [1, 3, 2].into_iter().cycle().take(count).collect();
-            large[count - 1] = entry;
-            let list = [vec![1, 3], large, vec![1, 4, 3, 2]];
-            list_keeps(&list, |list| agree(5, &words_of(list), 6, 150));
+    let what = "calls, up to 65,535 entries or calls";
+    in_each_style(what, |style, tally| {
+        let mut keeps = |list: &[Vec<u16>]| {
+            list_keeps(list, |list| {
+                agree(style, 5, &words_of(list), 2 * list.len(), 150)
+            });
             tally.count();
-            let many = vec![vec![]; count - 1];
-            let list = [
-                vec![vec![1, 3]],
-                many,
-                vec![vec![1, 4, 3, 2], vec![entry; 2]],
-            ]
-            .concat();
-            list_keeps(&list, |list| agree(5, &words_of(list), 2 * list.len(), 150));
-            tally.count();
+        };
+        for count in [1023, 1024, 1025, 32_768, 65_535] {
+            for entry in [0, 1, 3, 4, 0x8001, 0x4001, 0xC001, 0xC000] {
+                let (first, last) = (vec![1, 3], vec![1, 4, 3, 2]);
+                let mut large: Vec<u16> = [1, 3, 2].into_iter().cycle().take(count).collect();
+                large[count - 1] = entry;
+                keeps(&[first.clone(), large, last.clone()]);
+                let mut many = vec![vec![]; count - 1];
+                many.insert(0, first);
+                many.extend([last, vec![entry; 2]]);
+                keeps(&many);
+            }
         }
-    }
-    tally.say();
+    });
 }
 
 /// The proved library gives the second implementation's answers and drawing with one list a call.
-fn agree_in_lists(n: usize, list: &[Vec<u16>]) -> Kept {
+fn agree_in_lists(style: Style, n: usize, list: &[Vec<u16>]) -> Kept {
     let mut answers = blank(2 * list.len());
-    let second = second_drawing(n, &words_of(list), &mut answers)
+    let second = second_drawing(style, n, &words_of(list), &mut answers)
         .map(|drawing| drawing_file::write(&drawing).map_err(refusal));
-    let (told, drawing) = match panel::calls(n, list) {
+    let (told, drawing) = match (proved(style).calls)(n, list) {
         Ok(called) => (called.answers, Ok(called.drawing)),
         Err(refusal) => (Vec::new(), Err(refusal)),
     };
@@ -240,7 +246,7 @@ fn agree_in_lists(n: usize, list: &[Vec<u16>]) -> Kept {
         Err(refusal) => [refusal.number, refusal.place as u16],
     });
     if drawing != second || (second.is_ok() && !told.flatten().eq(answers)) {
-        return Err(format!("lists of calls with n = {n}"));
+        return Err(format!("{style:?} lists of calls with n = {n}"));
     }
     Ok(())
 }
@@ -248,15 +254,15 @@ fn agree_in_lists(n: usize, list: &[Vec<u16>]) -> Kept {
 // The same answers with one list a call.
 #[test]
 fn lists_of_lists() {
-    let mut tally = Tally::new("calls, lists of lists");
-    for round in 0..rounds(2000) {
-        let mut random = Random::new(75_000 + round);
-        let n = random.between(3, 60) as u16;
-        let list = calls(n, Style::Mixed, &mut random);
-        for n in [n, 2, 1025] {
-            list_keeps(&list, |list| agree_in_lists(n.into(), list));
-            tally.count();
+    in_each_style("calls, lists of lists", |style, tally| {
+        for round in 0..tally.rounds(2000) {
+            let mut random = Random::new(75_000 + round);
+            let n = random.between(3, 60) as u16;
+            let list = calls(n, Runs::Mixed, &mut random);
+            for n in [n, 2, 1025] {
+                list_keeps(&list, |list| agree_in_lists(style, n.into(), list));
+                tally.count();
+            }
         }
-    }
-    tally.say();
+    });
 }

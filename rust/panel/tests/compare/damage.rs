@@ -1,26 +1,28 @@
 //! Damaged files: both sides give the same refusal, or accept the same.
 
-use second::generate::{order, record_places, Random, Style, STYLES};
+use second::generate::{order, record_places, Random, Runs, RUNS};
+use second::Style;
 
 use crate::both::{compare, Way};
 use crate::orders::drawn;
 use crate::shrink::list_keeps;
-use crate::tally::{rounds, Tally};
+use crate::tally::{in_each_style, Tally};
 
 /// Both sides agree on the bytes.
-fn agree(way: Way, bytes: &[u8], tally: &mut Tally) {
+fn agree(style: Style, way: Way, bytes: &[u8], tally: &mut Tally) {
     list_keeps(bytes, |bytes| {
-        compare(way, bytes, way.room(bytes)).map(|_| ())
+        compare(style, way, bytes, way.room(bytes)).map(|_| ())
     });
     tally.count();
 }
 
-/// The order file and the drawing file of a random order of every style and each n.
-fn files(sizes: impl IntoIterator<Item = u16>, seed: u64) -> Vec<(Way, Vec<u8>)> {
+/// The order file and the drawing file of a random order with runs of every sort and each n.
+fn files(style: Style, sizes: impl IntoIterator<Item = u16>, seed: u64) -> Vec<(Way, Vec<u8>)> {
     let mut files = Vec::new();
     for n in sizes {
-        for style in STYLES {
-            let (bytes, drawing) = drawn(&order(n, style, &mut Random::new(seed + u64::from(n))));
+        for runs in RUNS {
+            let order = order(n, runs, &mut Random::new(seed + u64::from(n)));
+            let (bytes, drawing) = drawn(style, &order);
             files.extend([(Way::Draw, bytes), (Way::Undraw, drawing)]);
         }
     }
@@ -88,70 +90,74 @@ fn other_numbers(own: u16, n: u16) -> [u16; 25] {
 // Each byte changed to every other value.
 #[test]
 fn each_byte_changed() {
-    let mut tally = Tally::new("damage, each byte to every other value for up to 12 points");
-    for (way, bytes) in files([3, 4, 5, 6, 8, 12], 60_000) {
-        for at in 0..bytes.len() {
-            for change in 1..=u8::MAX {
-                let mut changed = bytes.clone();
-                changed[at] ^= change;
-                agree(way, &changed, &mut tally);
+    let what = "damage, each byte to every other value for up to 12 points";
+    in_each_style(what, |style, tally| {
+        for (way, bytes) in files(style, [3, 4, 5, 6, 8, 12], 60_000) {
+            for at in 0..bytes.len() {
+                for change in 1..=u8::MAX {
+                    let mut changed = bytes.clone();
+                    changed[at] ^= change;
+                    agree(style, way, &changed, tally);
+                }
             }
         }
-    }
-    tally.say();
+    });
 }
 
 // "counts and entries out of range", coordinates, ends, flags: each number changed.
 #[test]
 fn each_number_changed() {
-    let mut tally = Tally::new("damage, each number changed for up to 24 points");
-    for (way, bytes) in files((3..=14).chain([24]), 61_000) {
-        let n = number(&bytes, 2);
-        for at in (0..bytes.len()).step_by(2) {
-            for other in other_numbers(number(&bytes, at), n) {
-                agree(way, &with_number(&bytes, at, other), &mut tally);
+    let what = "damage, each number changed for up to 24 points";
+    in_each_style(what, |style, tally| {
+        for (way, bytes) in files(style, (3..=14).chain([24]), 61_000) {
+            let n = number(&bytes, 2);
+            for at in (0..bytes.len()).step_by(2) {
+                for other in other_numbers(number(&bytes, at), n) {
+                    agree(style, way, &with_number(&bytes, at, other), tally);
+                }
             }
         }
-    }
-    tally.say();
+    });
 }
 
 // Cut short at every length; bytes added after the end.
 #[test]
 fn cut_short_and_bytes_added() {
-    let mut tally = Tally::new("damage, every shorter length and bytes added for up to 60 points");
-    for (way, bytes) in files((3..=12).chain([25, 60]), 62_000) {
-        for length in 0..bytes.len() {
-            agree(way, &bytes[..length], &mut tally);
+    let what = "damage, every shorter length and bytes added for up to 60 points";
+    in_each_style(what, |style, tally| {
+        for (way, bytes) in files(style, (3..=12).chain([25, 60]), 62_000) {
+            for length in 0..bytes.len() {
+                agree(style, way, &bytes[..length], tally);
+            }
+            for tail in [&[0][..], &[0x45], &[0x45, 0x4E], &[0xFF; 3], &bytes] {
+                agree(style, way, &[&bytes, tail].concat(), tally);
+            }
         }
-        for tail in [&[0][..], &[0x45], &[0x45, 0x4E], &[0xFF; 3], &bytes] {
-            agree(way, &[&bytes, tail].concat(), &mut tally);
-        }
-    }
-    tally.say();
+    });
 }
 
 // Every two records swapped; each record left out or repeated.
 #[test]
 fn records_swapped_left_out_repeated() {
-    let mut tally = Tally::new("damage, records swapped, left out, repeated for up to 16 points");
-    for (way, bytes) in files((3..=10).chain([16]), 63_000) {
-        let records = records(&bytes);
-        for one in 0..records.len() {
-            for two in one + 1..records.len() {
-                let mut swapped = records.clone();
-                swapped.swap(one, two);
-                agree(way, &swapped.concat(), &mut tally);
+    let what = "damage, records swapped, left out, repeated for up to 16 points";
+    in_each_style(what, |style, tally| {
+        for (way, bytes) in files(style, (3..=10).chain([16]), 63_000) {
+            let records = records(&bytes);
+            for one in 0..records.len() {
+                for two in one + 1..records.len() {
+                    let mut swapped = records.clone();
+                    swapped.swap(one, two);
+                    agree(style, way, &swapped.concat(), tally);
+                }
+                let mut less = records.clone();
+                less.remove(one);
+                agree(style, way, &less.concat(), tally);
+                let mut more = records.clone();
+                more.insert(one, records[one]);
+                agree(style, way, &more.concat(), tally);
             }
-            let mut less = records.clone();
-            less.remove(one);
-            agree(way, &less.concat(), &mut tally);
-            let mut more = records.clone();
-            more.insert(one, records[one]);
-            agree(way, &more.concat(), &mut tally);
         }
-    }
-    tally.say();
+    });
 }
 
 /// So many entries: the boundary 1, 3, 2 over and over, with some other entries.
@@ -166,8 +172,13 @@ fn many_entries(count: usize, others: &[(usize, u16)]) -> Vec<u8> {
 // Records of many entries, up to the largest count, for each of the first five points.
 #[test]
 fn records_of_many_entries() {
-    let mut tally = Tally::new("damage, records of up to 65,535 entries");
-    let (bytes, _) = drawn(&order(5, Style::Whole, &mut Random::new(67_000)));
+    let what = "damage, records of up to 65,535 entries";
+    in_each_style(what, many_entries_in_each_record);
+}
+
+/// The same in one style.
+fn many_entries_in_each_record(style: Style, tally: &mut Tally) {
+    let (bytes, _) = drawn(style, &order(5, Runs::Whole, &mut Random::new(67_000)));
     let records = records(&bytes);
     let points = records.len() - 6..records.len() - 1;
     for count in [4, 1023, 1024, 1025, 1026, 32_767, 32_768, 65_535] {
@@ -191,25 +202,24 @@ fn records_of_many_entries() {
                 let mut changed = records.clone();
                 changed[point] = &large;
                 let changed = changed.concat();
-                agree(Way::Draw, &changed, &mut tally);
-                agree(Way::Draw, &changed[..changed.len() - 30], &mut tally);
+                agree(style, Way::Draw, &changed, tally);
+                agree(style, Way::Draw, &changed[..changed.len() - 30], tally);
             }
         }
     }
-    tally.say();
 }
 
 // Files with many bytes after the end.
 #[test]
 fn many_bytes_added() {
-    let mut tally = Tally::new("damage, up to 200,000 bytes added");
-    for (way, bytes) in files([3, 5, 1024], 68_000) {
-        for length in [32_768, 65_535, 65_536, 65_537, 200_000] {
-            let tail = vec![0x45; length];
-            agree(way, &[&bytes[..], &tail].concat(), &mut tally);
+    in_each_style("damage, up to 200,000 bytes added", |style, tally| {
+        for (way, bytes) in files(style, [3, 5, 1024], 68_000) {
+            for length in [32_768, 65_535, 65_536, 65_537, 200_000] {
+                let tail = vec![0x45; length];
+                agree(style, way, &[&bytes[..], &tail].concat(), tally);
+            }
         }
-    }
-    tally.say();
+    });
 }
 
 /// The file with damage of a random kind at a random place.
@@ -239,35 +249,37 @@ fn damaged(bytes: &[u8], random: &mut Random) -> Vec<u8> {
     pieces.concat()
 }
 
-/// Random damage of every style of order, so often for each n.
+/// Random damage to orders with runs of every sort, so often for each n.
 fn random_damage(what: &'static str, sizes: &[u16], seed: u64, times: u64) {
-    let mut tally = Tally::new(what);
-    for (index, (way, bytes)) in files(sizes.iter().copied(), seed).into_iter().enumerate() {
-        let mut random = Random::new(seed + index as u64);
-        for _ in 0..rounds(times) {
-            agree(way, &damaged(&bytes, &mut random), &mut tally);
+    in_each_style(what, |style, tally| {
+        let files = files(style, sizes.iter().copied(), seed);
+        for (index, (way, bytes)) in files.into_iter().enumerate() {
+            let mut random = Random::new(seed + index as u64);
+            for _ in 0..tally.rounds(times) {
+                agree(style, way, &damaged(&bytes, &mut random), tally);
+            }
         }
-    }
-    tally.say();
+    });
 }
 
 // Several numbers changed at once.
 #[test]
 fn several_numbers_changed() {
-    let mut tally = Tally::new("damage, several numbers changed for up to 30 points");
-    for (index, (way, bytes)) in files(3..=30, 64_000).into_iter().enumerate() {
-        let mut random = Random::new(64_000 + index as u64);
-        for _ in 0..rounds(1500) {
-            let mut changed = bytes.clone();
-            for _ in 0..random.between(2, 4) {
-                let at = 2 * random.below(bytes.len() / 2);
-                let others = other_numbers(number(&bytes, at), number(&bytes, 2));
-                changed = with_number(&changed, at, others[random.below(others.len())]);
+    let what = "damage, several numbers changed for up to 30 points";
+    in_each_style(what, |style, tally| {
+        for (index, (way, bytes)) in files(style, 3..=30, 64_000).into_iter().enumerate() {
+            let mut random = Random::new(64_000 + index as u64);
+            for _ in 0..tally.rounds(1500) {
+                let mut changed = bytes.clone();
+                for _ in 0..random.between(2, 4) {
+                    let at = 2 * random.below(bytes.len() / 2);
+                    let others = other_numbers(number(&bytes, at), number(&bytes, 2));
+                    changed = with_number(&changed, at, others[random.below(others.len())]);
+                }
+                agree(style, way, &changed, tally);
             }
-            agree(way, &changed, &mut tally);
         }
-    }
-    tally.say();
+    });
 }
 
 // Files of middle size.

@@ -1,8 +1,8 @@
 //! The proved library against the second implementation, from fixed seeds.
 //!
-//! Every test writes how many cases it ran. The environment variable PANEL_ROUNDS (1 if it isn't set)
-//! multiplies the number of random cases: `PANEL_ROUNDS=20 cargo test --release -p panel`. A case
-//! that differs is made as small as can be before it is printed.
+//! Every test runs in both styles of drawing and writes how many cases it ran. The environment variable
+//! PANEL_ROUNDS (1 if it isn't set) multiplies the number of random cases: `PANEL_ROUNDS=20 cargo test
+//! --release -p panel`. A case that differs is made as small as can be before it is printed.
 
 mod as_c;
 mod both;
@@ -16,5 +16,7 @@ mod moves;
 mod orders;
 mod outputs;
 mod promise;
+mod proved;
 mod shrink;
+mod styles;
 mod tally;

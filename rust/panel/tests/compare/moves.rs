@@ -1,14 +1,15 @@
 //! Cutter moves, bit for bit.
 
-use panel::raw::panel_move;
+use panel::raw::{ONE_BEND, STRAIGHT};
 use panel::{Move, Refusal, Tool, FEEDER, GUIDE};
-use second::generate::{order, Order, Random, Style, STYLES};
-use second::{moves, order_file, Drawing};
+use second::generate::{order, Order, Random, Runs, RUNS};
+use second::{moves, order_file, Drawing, Style};
 
 use crate::as_c::words;
 use crate::both::refusal;
+use crate::proved::proved;
 use crate::shrink::{keeps, order_keeps, Kept};
-use crate::tally::{rounds, Tally};
+use crate::tally::{in_each_style, Tally};
 
 /// A move's kind and the bits of its numbers, so that -0 and NaN are told apart.
 pub type Bits = (u64, [u32; 2]);
@@ -43,25 +44,33 @@ pub fn second_move(drawing: &Drawing, tool: Tool, number: usize) -> Result<Bits,
 
 /// Both sides give the same move of the order file, whose drawing is given too.
 fn same_move(bytes: &[u8], drawing: &Drawing, tool: Tool, number: usize) -> Kept {
-    let proved = panel::move_at(bytes, tool, number).map(bits);
+    let style = drawing.style;
+    let proved = (proved(style).move_at)(bytes, tool, number).map(bits);
     let second = second_move(drawing, tool, number);
     if proved != second {
         return Err(format!(
-            "move {number} with {tool:?}\n  proved: {proved:x?}\n  second: {second:x?}"
+            "{style:?}, move {number} with {tool:?}\n  proved: {proved:x?}\n  second: {second:x?}"
         ));
     }
     Ok(())
 }
 
-/// Both sides give the same moves of an order, and then 23.
-fn same_moves(order: &Order, tool: Tool) -> Kept {
-    let bytes = order.bytes();
-    let drawing = order_file::read(&bytes).map_err(|refusal| refusal.to_string())?;
-    let count = moves::move_count(&drawing).map_err(|refusal| refusal.to_string())?;
-    for number in 0..=count {
-        same_move(&bytes, &drawing, tool, number)?;
-    }
-    same_move(&bytes, &drawing, tool, usize::MAX)
+/// The second implementation's drawing of an accepted order, and how many moves it gives.
+fn second_drawing(style: Style, bytes: &[u8]) -> (Drawing, usize) {
+    let drawing = order_file::read(style, bytes).expect("an accepted order");
+    let count = moves::move_count(&drawing).expect("a finished drawing");
+    (drawing, count)
+}
+
+/// Both sides give the same moves of an order, and then 23; one case more.
+fn same_moves(style: Style, order: &Order, tool: Tool, tally: &mut Tally) {
+    order_keeps(order, |order| {
+        let bytes = order.bytes();
+        let (drawing, count) = second_drawing(style, &bytes);
+        let mut numbers = (0..=count).chain([usize::MAX]);
+        numbers.try_for_each(|number| same_move(&bytes, &drawing, tool, number))
+    });
+    tally.count();
 }
 
 /// A tool within its ranges.
@@ -122,199 +131,228 @@ pub fn corners() -> Vec<f32> {
 // Every move of random drawings with random tools, small drawings and many.
 #[test]
 fn all_moves_of_up_to_100_points() {
-    let mut tally = Tally::new("moves, all of random drawings of up to 100 points");
-    for round in 0..rounds(80) {
-        let mut random = Random::new(80_000 + round);
-        for style in STYLES {
-            let n = random.between(3, 100) as u16;
-            let order = order(n, style, &mut random);
-            let tool = random_tool(&mut random);
-            order_keeps(&order, |order| same_moves(order, tool));
-            tally.count();
+    let what = "moves, all of random drawings of up to 100 points";
+    in_each_style(what, |style, tally| {
+        for round in 0..tally.rounds(80) {
+            let mut random = Random::new(80_000 + round);
+            for runs in RUNS {
+                let n = random.between(3, 100) as u16;
+                let order = order(n, runs, &mut random);
+                same_moves(style, &order, random_tool(&mut random), tally);
+            }
         }
-    }
-    tally.say();
+    });
 }
 
 // Every move of the largest drawings; the iterator gives as many.
 #[test]
 fn all_moves_of_1024_points() {
-    let mut tally = Tally::new("moves, all of drawings of 1,024 points");
     let tool = Tool {
         pitch: 80.0,
         depth: 40.0,
         clearance: 80.0,
     };
-    for style in STYLES {
-        let bytes = order(1024, style, &mut Random::new(81_000)).bytes();
-        let drawing = order_file::read(&bytes).unwrap();
-        let mut count = 0;
-        for given in panel::moves(&bytes, tool).unwrap() {
-            assert_eq!(Ok(bits(given)), second_move(&drawing, tool, count));
-            count += 1;
-            tally.count();
+    in_each_style("moves, all of drawings of 1,024 points", |style, tally| {
+        for runs in RUNS {
+            let bytes = order(1024, runs, &mut Random::new(81_000)).bytes();
+            let (drawing, wanted) = second_drawing(style, &bytes);
+            let mut count = 0;
+            for given in (proved(style).moves)(&bytes, tool).unwrap() {
+                assert_eq!(Ok(bits(given)), second_move(&drawing, tool, count));
+                count += 1;
+                tally.count();
+            }
+            assert_eq!(count, wanted);
         }
-        assert_eq!(Ok(count), moves::move_count(&drawing));
-    }
-    tally.say();
+    });
 }
 
 /// The moves that the proved library gives for an order.
-fn all_moves(order: &Order, tool: Tool) -> Vec<Bits> {
+fn all_moves(style: Style, order: &Order, tool: Tool) -> Vec<Bits> {
     let bytes = order.bytes();
-    let moves = panel::moves(&bytes, tool).expect("an accepted order and a tool in range");
+    let moves = (proved(style).moves)(&bytes, tool);
+    let moves = moves.expect("an accepted order and a tool in range");
     moves.map(bits).collect()
 }
 
+/// The moves of a line that is cut once: "five moves", and without a bend one cut less.
+fn moves_of_a_line(style: Style) -> usize {
+    match style {
+        Style::OneBend => 5,
+        Style::Straight => 4,
+    }
+}
+
 // "A feeder gives its five moves twice in succession": the whole list with feeders is the list of the
-// same lines all plain, each line's five moves as often as it is cut.
+// same lines all plain, each line's moves as often as it is cut.
 #[test]
 fn feeders_give_their_moves_twice() {
-    let mut tally = Tally::new("moves, all of drawings with feeders");
-    for round in 0..rounds(60) {
-        let mut random = Random::new(86_000 + round);
-        for style in STYLES {
-            let n = random.between(3, 40) as u16;
-            let marked = order(n, style, &mut random);
-            let tool = random_tool(&mut random);
-            let mut plain = marked.plain();
-            plain.s = marked.s;
-            let once = all_moves(&plain, tool);
-            let all_with = |mark: u16| {
-                let mut order = plain.clone();
-                order.entries_mut().for_each(|entry| *entry |= mark);
-                order
-            };
-            for order in [marked, all_with(FEEDER), all_with(GUIDE)] {
-                let mut expected = Vec::new();
-                for (five, &entry) in once.chunks(5).zip(order.entries()) {
-                    let times = match entry & (GUIDE | FEEDER) {
-                        0 => 1,
-                        FEEDER => 2,
-                        _ => 0,
-                    };
-                    expected.extend(five.repeat(times));
-                }
-                assert_eq!(all_moves(&order, tool), expected, "{order:?}");
-                order_keeps(&order, |order| same_moves(order, tool));
-                tally.count();
+    in_each_style("moves, all of drawings with feeders", |style, tally| {
+        for round in 0..tally.rounds(60) {
+            let mut random = Random::new(86_000 + round);
+            for runs in RUNS {
+                let n = random.between(3, 40) as u16;
+                let marked = order(n, runs, &mut random);
+                moves_as_marked(style, &marked, random_tool(&mut random), tally);
             }
         }
+    });
+}
+
+/// The same for the lines of an order as they are marked, all feeders, and all guides.
+fn moves_as_marked(style: Style, marked: &Order, tool: Tool, tally: &mut Tally) {
+    let mut plain = marked.plain();
+    plain.s = marked.s;
+    let once = all_moves(style, &plain, tool);
+    assert_eq!(once.len(), moves_of_a_line(style) * plain.entries().count());
+    let all_with = |mark: u16| {
+        let mut order = plain.clone();
+        order.entries_mut().for_each(|entry| *entry |= mark);
+        order
+    };
+    for order in [marked.clone(), all_with(FEEDER), all_with(GUIDE)] {
+        let lines = once.chunks(moves_of_a_line(style));
+        let mut expected = Vec::new();
+        for (line, &entry) in lines.zip(order.entries()) {
+            let times = match entry & (GUIDE | FEEDER) {
+                0 => 1,
+                FEEDER => 2,
+                _ => 0,
+            };
+            expected.extend(line.repeat(times));
+        }
+        assert_eq!(all_moves(style, &order, tool), expected, "{order:?}");
+        same_moves(style, &order, tool, tally);
     }
-    tally.say();
 }
 
 // Every pitch, and some moves of the widest drawings at the largest scale.
 #[test]
 fn every_pitch() {
-    let mut tally = Tally::new("moves, every pitch for 1,024 points at scale 8");
-    for style in STYLES {
-        let mut order = order(1024, style, &mut Random::new(82_000)).plain();
-        order.s = 8;
-        order
-            .entries_mut()
-            .step_by(2)
-            .for_each(|entry| *entry |= FEEDER);
-        let bytes = order.bytes();
-        let drawing = order_file::read(&bytes).unwrap();
-        let mut random = Random::new(82_000);
-        for pitch in 1..=80u8 {
-            let tool = with(random_tool(&mut random), 0, pitch.into());
-            for _ in 0..rounds(10) {
-                let number = random.below(23_100);
-                keeps(same_move(&bytes, &drawing, tool, number));
-                tally.count();
+    let what = "moves, every pitch for 1,024 points at scale 8";
+    in_each_style(what, |style, tally| {
+        for runs in RUNS {
+            let mut order = order(1024, runs, &mut Random::new(82_000)).plain();
+            order.s = 8;
+            order
+                .entries_mut()
+                .step_by(2)
+                .for_each(|entry| *entry |= FEEDER);
+            let bytes = order.bytes();
+            let (drawing, count) = second_drawing(style, &bytes);
+            let mut random = Random::new(82_000);
+            for pitch in 1..=80u8 {
+                let tool = with(random_tool(&mut random), 0, pitch.into());
+                for _ in 0..tally.rounds(10) {
+                    let number = random.below(count + 100);
+                    keeps(same_move(&bytes, &drawing, tool, number));
+                    tally.count();
+                }
             }
         }
-    }
-    tally.say();
+    });
 }
 
 // Each number of the tool from all corners of f32, and at random.
 #[test]
 fn tools_from_all_corners() {
-    let mut tally = Tally::new("moves, tools from all corners of f32");
-    let mut random = Random::new(83_000);
-    let mut values = corners();
-    values.extend((0..rounds(100_000)).map(|_| f32::from_bits(random.number() as u32)));
-    let order = order(5, Style::Mixed, &mut random).plain();
-    let bytes = order.bytes();
-    let drawing = order_file::read(&bytes).unwrap();
-    for value in values {
-        for field in 0..3 {
-            let tool = with(random_tool(&mut random), field, value);
-            for number in [random.below(45), usize::MAX] {
-                keeps(same_move(&bytes, &drawing, tool, number));
-                tally.count();
+    in_each_style("moves, tools from all corners of f32", |style, tally| {
+        let mut random = Random::new(83_000);
+        let mut values = corners();
+        let many = tally.rounds(100_000);
+        values.extend((0..many).map(|_| f32::from_bits(random.number() as u32)));
+        let order = order(5, Runs::Mixed, &mut random).plain();
+        let bytes = order.bytes();
+        let (drawing, count) = second_drawing(style, &bytes);
+        for value in values {
+            for field in 0..3 {
+                let tool = with(random_tool(&mut random), field, value);
+                for number in [random.below(count), usize::MAX] {
+                    keeps(same_move(&bytes, &drawing, tool, number));
+                    tally.count();
+                }
             }
         }
-    }
-    tally.say();
+    });
 }
 
 // Refusals of the file come before 12, 12 before 23; the iterator is refused likewise.
 #[test]
 fn refusals_in_order() {
-    let mut tally = Tally::new("moves, refusals in their order");
-    let mut random = Random::new(84_020);
-    let bytes = order(6, Style::Mixed, &mut random).bytes();
-    for at in 0..bytes.len() {
-        for change in [1, 0x40, 0x80, 0xC0, 0xFF] {
-            let mut wrong = bytes.clone();
-            wrong[at] ^= change;
-            for pitch in [8.0, 0.0] {
-                let tool = with(random_tool(&mut random), 0, pitch);
-                let proved = panel::move_at(&wrong, tool, 0).map(bits);
-                let second = order_file::read(&wrong)
-                    .map_err(refusal)
-                    .and_then(|drawing| second_move(&drawing, tool, 0));
-                assert_eq!(proved, second);
-                let begun = panel::moves(&wrong, tool).map(|moves| moves.take(1).count());
-                match second {
-                    Ok(_) => assert_eq!(begun, Ok(1)),
-                    Err(refusal) if refusal.number == 23 => assert_eq!(begun, Ok(0)),
-                    Err(refusal) => assert_eq!(begun, Err(refusal)),
+    in_each_style("moves, refusals in their order", |style, tally| {
+        let mut random = Random::new(84_020);
+        let bytes = order(6, Runs::Mixed, &mut random).bytes();
+        for at in 0..bytes.len() {
+            for change in [1, 0x40, 0x80, 0xC0, 0xFF] {
+                let mut wrong = bytes.clone();
+                wrong[at] ^= change;
+                for pitch in [8.0, 0.0] {
+                    let tool = with(random_tool(&mut random), 0, pitch);
+                    refused_alike(style, &wrong, tool);
+                    tally.count();
                 }
-                tally.count();
             }
         }
+    });
+}
+
+/// Both sides give the same first move, or refuse alike; the iterator begins or is refused likewise.
+fn refused_alike(style: Style, bytes: &[u8], tool: Tool) {
+    let first = (proved(style).move_at)(bytes, tool, 0).map(bits);
+    let second = order_file::read(style, bytes)
+        .map_err(refusal)
+        .and_then(|drawing| second_move(&drawing, tool, 0));
+    assert_eq!(first, second);
+    let begun = (proved(style).moves)(bytes, tool).map(|moves| moves.take(1).count());
+    match second {
+        Ok(_) => assert_eq!(begun, Ok(1)),
+        Err(refusal) if refusal.number == 23 => assert_eq!(begun, Ok(0)),
+        Err(refusal) => assert_eq!(begun, Err(refusal)),
     }
-    tally.say();
 }
 
 // As C sees it: a refusal leaves `at`, plunge and lift put 0 into its second number.
 #[test]
 fn what_stands_in_at() {
-    let mut tally = Tally::new("moves, what C finds in `at`");
-    let mut random = Random::new(85_000);
-    let before = [0x7FC1_2345, 0x8000_0001].map(f32::from_bits);
-    for style in STYLES {
-        let bytes = order(9, style, &mut random).bytes();
-        let drawing = order_file::read(&bytes).unwrap();
-        for number in 0..215 {
-            let pitch = if number % 7 == 6 { 0.5 } else { 3.0 };
-            let tool = with(random_tool(&mut random), 0, pitch);
-            let (mut at, mut refusal) = (before, [u64::MAX; 3]);
-            // SAFETY: pointer and length are those of a slice, and both arrays are ours.
-            let kind = unsafe {
-                panel_move(
-                    bytes.as_ptr(),
-                    bytes.len(),
-                    tool.pitch,
-                    tool.depth,
-                    tool.clearance,
-                    number,
-                    &mut at,
-                    &mut refusal,
-                )
-            };
-            let told = ((kind, at.map(f32::to_bits)), refusal);
-            match second_move(&drawing, tool, number) {
-                Ok(wanted) => assert_eq!(told, (wanted, [0; 3])),
-                Err(why) => assert_eq!(told, ((0, before.map(f32::to_bits)), words(why, 0))),
+    in_each_style("moves, what C finds in `at`", |style, tally| {
+        let mut random = Random::new(85_000);
+        for runs in RUNS {
+            let bytes = order(9, runs, &mut random).bytes();
+            let (drawing, _) = second_drawing(style, &bytes);
+            for number in 0..215 {
+                let pitch = if number % 7 == 6 { 0.5 } else { 3.0 };
+                let tool = with(random_tool(&mut random), 0, pitch);
+                same_in_at(&bytes, &drawing, tool, number);
+                tally.count();
             }
-            tally.count();
         }
+    });
+}
+
+/// The same for one move of an order file, whose drawing is given too.
+fn same_in_at(bytes: &[u8], drawing: &Drawing, tool: Tool, number: usize) {
+    let before = [0x7FC1_2345, 0x8000_0001].map(f32::from_bits);
+    let (mut at, mut refusal) = (before, [u64::MAX; 3]);
+    let order_move = match drawing.style {
+        Style::OneBend => ONE_BEND.order_move,
+        Style::Straight => STRAIGHT.order_move,
+    };
+    // SAFETY: pointer and length are those of a slice, and both arrays are ours.
+    let kind = unsafe {
+        order_move(
+            bytes.as_ptr(),
+            bytes.len(),
+            tool.pitch,
+            tool.depth,
+            tool.clearance,
+            number,
+            &mut at,
+            &mut refusal,
+        )
+    };
+    let told = ((kind, at.map(f32::to_bits)), refusal);
+    match second_move(drawing, tool, number) {
+        Ok(wanted) => assert_eq!(told, (wanted, [0; 3])),
+        Err(why) => assert_eq!(told, ((0, before.map(f32::to_bits)), words(why, 0))),
     }
-    tally.say();
 }

@@ -3,30 +3,38 @@
 use std::io::{self, Write};
 use std::time::Instant;
 
-/// So many random cases, times PANEL_ROUNDS.
-pub fn rounds(cases: u64) -> u64 {
-    let times = std::env::var("PANEL_ROUNDS").map_or(1, |text| {
-        text.parse()
-            .expect("PANEL_ROUNDS is a whole number from 1 up")
-    });
-    cases * u64::max(times, 1)
+use second::{Style, STYLES};
+
+/// Runs a test in each style, and writes how many cases it ran.
+pub fn in_each_style(what: &'static str, test: impl Fn(Style, &mut Tally)) {
+    for style in STYLES {
+        let mut tally = Tally {
+            what,
+            style,
+            cases: 0,
+            started: Instant::now(),
+        };
+        test(style, &mut tally);
+        tally.say();
+    }
 }
 
-/// Counts the cases of a test.
+/// Counts the cases of a test in one style.
 pub struct Tally {
     what: &'static str,
+    style: Style,
     cases: u64,
     started: Instant,
 }
 
 impl Tally {
-    /// A count from 0.
-    pub fn new(what: &'static str) -> Self {
-        Tally {
-            what,
-            cases: 0,
-            started: Instant::now(),
-        }
+    /// So many random cases, times PANEL_ROUNDS.
+    pub fn rounds(&self, cases: u64) -> u64 {
+        let times = std::env::var("PANEL_ROUNDS").map_or(1, |text| {
+            text.parse()
+                .expect("PANEL_ROUNDS is a whole number from 1 up")
+        });
+        cases * u64::max(times, 1)
     }
 
     /// One case more.
@@ -35,9 +43,13 @@ impl Tally {
     }
 
     /// Writes the count to standard output, also where the test harness keeps back what is printed.
-    pub fn say(self) {
+    fn say(self) {
+        let style = match self.style {
+            Style::OneBend => "one-bend",
+            Style::Straight => "straight",
+        };
         let line = format!(
-            "{}: {} cases in {:.1} s\n",
+            "{style} {}: {} cases in {:.1} s\n",
             self.what,
             self.cases,
             self.started.elapsed().as_secs_f64()
