@@ -7,7 +7,7 @@ use Rattle.rules.specs.declared.Style.{Style}
 use Rattle.rules.specs.declared.Style.the-variants.{OneBend, Straight}
 use Rattle.rules.specs.Styles.{taken}
 use Rattle.net.specs.Side.{Side, rt, lf, op, Cols, at, at-in, cols-self, cols-eq, cols-op, at-op, at-inj, at-out}
-use Rattle.net.specs.Net.{Net, BendKind, side, middle, flat, sideKind}
+use Rattle.net.specs.Net.{Net, BendKind, side, middle, flat, sideKind, beyond-apart}
 use Rattle.net.specs.Inv.{Points, Aside, Bent, port, within, plain, Leans, aside, upright, Fits, Lines}
 use Rattle.net.specs.Adds.{Line, old, tip, rib, Adds}
 use Rattle.net.specs.Walls.{keep-beyond, join-cols, upto-new, tip-m, tip-in, tip-col}
@@ -15,9 +15,17 @@ use Rattle.net.specs.Walls.{keep-beyond, join-cols, upto-new, tip-m, tip
 -- a fit of either drawing leans
 pub leans : (τ : Style) {g : Net} {p q : ℕ} (κ : BendKind) → Fits τ g p q κ → Leans τ g p q
 leans OneBend (side s j) (port f b c) = aside s f
-leans OneBend (middle i) (within e b c) = upright e
+leans OneBend (middle i) (within e b c) = upright e b
 leans OneBend flat (plain f c) = aside rt f
 leans Straight κ f = f .1
+
+-- the ends of a line lie at two places
+pub ends-apart : {τ : Style} {g : Net} → Lines τ g → (e : ℕ) → e < g .L → g .x (g .u e) ≡ g .x (g .v e) → g .y (g .u e) ≡ g .y (g .v e) → ⊥
+ends-apart {τ} {g} n e el x y = go (leans τ (g .kind e) (n .fits e el))
+  where
+    go : Leans τ g (g .u e) (g .v e) → ⊥
+    go (aside s f) = beyond-apart s (f .away) x y
+    go (upright c b) = beyond-apart rt b (sym x) (sym y)
 
 module _ {τ : Style} {g g′ : Net} {l r : ℕ} (h : Points τ g) (a : Adds τ g g′ l r) where
   pub keep-cols : (s : Side) {p q : ℕ} → p < g .k → q < g .k → Cols s (g .col p) (g .col q) → Cols s (g′ .col p) (g′ .col q)
@@ -33,7 +41,7 @@ module _ {τ : Style} {g g′ : Net} {l r : ℕ} (h : Points τ g) (a : Adds τ 
 
   keep-leans : (p q : ℕ) → p < g .k → q < g .k → Leans τ g p q → Leans τ g′ p q
   keep-leans p q pk qk (aside s f) = aside s (keep-aside s p q pk qk f)
-  keep-leans p q pk qk (upright e) = upright (rw (a .col′ p pk, a .col′ q qk, e))
+  keep-leans p q pk qk (upright e b) = upright (rw (a .col′ p pk, a .col′ q qk, e)) (keep-beyond h a rt qk pk (cols-eq rt (sym e)) b)
 
   -- a new line to an end of the run
   pub tip-aside : (s : Side) → Aside τ s g′ (g .w (at s l r)) (g .k)
@@ -105,7 +113,7 @@ straight′ : {g g′ : Net} {l r : ℕ} (h : Points Straight g) (a : Adds Strai
     Fits Straight g′ (g′ .u e) (g′ .v e) (g′ .kind e)
 straight′ h a e n (old el eu ev ek) = let f = n .fits e el in (ek ∙ f .0, rw (eu, ev) (keep-leans h a _ _ (n .ends e el .0) (n .ends e el .1) (f .1)))
 straight′ h a e n (tip s i eu ev ek) = (ek, rw (eu, ev) (aside s (tip-aside h a s)))
-straight′ h a e n (rib i li ir en eu ev ek) = (ek, rw (eu, ev) (upright (rib-col h a i li ir)))
+straight′ h a e n (rib i li ir en eu ev ek) = (ek, rw (eu, ev) (upright (rib-col h a i li ir) (a .places .far rt i (omega (arith, a .rm)) (omega arith))))
 
 pub fits′ : (τ : Style) {g g′ : Net} {l r : ℕ} (h : Points τ g) (a : Adds τ g g′ l r) (e : ℕ) → Lines τ g → Line τ g g′ l r (a .port) e →
     Fits τ g′ (g′ .u e) (g′ .v e) (g′ .kind e)

@@ -25,10 +25,10 @@ pub data Bent (g : Net) (p q : ℕ) : BendKind → Type 0 where
   within : {i : ℕ} → g .col p ≡ g .col q → Beyond OneBend rt g q p → Beyond OneBend lf g q p → Bent g p q (middle i)
   plain : Aside OneBend rt g p q → g .y p ≡ g .y q → Bent g p q flat
 
--- what both drawings know of them: the later end is aside of the earlier one, or in its column
+-- what both drawings know of them: the later end is aside of the earlier one, or in its column and further left
 pub data Leans (τ : Style) (g : Net) (p q : ℕ) : Type 0 where
   aside : (s : Side) → Aside τ s g p q → Leans τ g p q
-  upright : g .col p ≡ g .col q → Leans τ g p q
+  upright : g .col p ≡ g .col q → Beyond τ rt g q p → Leans τ g p q
 
 -- 3 for both drawings: a straight line has no port
 abbrev pub Fits : Style → Net → ℕ → ℕ → BendKind → Type 0

@@ -63,6 +63,13 @@ beyond-not {τ = OneBend} lf h k = omega arith
 beyond-not {τ = Straight} rt h k = omega arith
 beyond-not {τ = Straight} lf h k = omega arith
 
+-- and lies at another place
+pub beyond-apart : {τ : Style} (s : Side) {g : Net} {p q : ℕ} → Beyond τ s g p q → g .x p ≡ g .x q → g .y p ≡ g .y q → ⊥
+beyond-apart {τ = OneBend} rt h x y = omega arith
+beyond-apart {τ = OneBend} lf h x y = omega arith
+beyond-apart {τ = Straight} rt h x y = omega arith
+beyond-apart {τ = Straight} lf h x y = omega arith
+
 -- further to both sides is lower
 pub beyond-low : {τ : Style} (s : Side) {g : Net} {p q : ℕ} → Beyond τ s g p q → Beyond τ (op s) g p q → g .y q < g .y p
 beyond-low {τ = OneBend} rt h k = omega arith

@@ -37,11 +37,11 @@ aside-back lf lf f c = absurd (omega (arith, f .cols))
 
 leans-slant : {τ : Style} {g : Net} {p q : ℕ} → Leans τ g p q → (s : Side) → Past s (g .col p) (g .col q) → Beyond τ s g p q
 leans-slant (aside t f) s k = aside-slant t s f k
-leans-slant (upright e) s k = absurd (past-not s k (cols-eq s (sym e)))
+leans-slant (upright e b) s k = absurd (past-not s k (cols-eq s (sym e)))
 
 leans-back : {τ : Style} {g : Net} {p q : ℕ} → Leans τ g p q → (s : Side) → Past s (g .col q) (g .col p) → Beyond τ s g q p
 leans-back (aside t f) s k = aside-back t s f k
-leans-back (upright e) s k = absurd (past-not s k (cols-eq s e))
+leans-back (upright e b) s k = absurd (past-not s k (cols-eq s e))
 
 ends-of : {τ : Style} {g : Net} → Lines τ g → (e : ℕ) → e < g .L → Ends τ g (g .u e) (g .v e)
 ends-of {τ} {g} n e el =
