@@ -1,11 +1,17 @@
 -- "Where the answer is an enum, there is a definition that gives this paper's number and values for each of its cases."
-use Prim.Native.Nat.{ℕ}
+use Prim.Native.Nat.{ℕ, _*_}
 use mathlib.Core.Path.{_≡_, refl}
+use mathlib.Core.List.{List}
+use lib.ListN.{length}
+use lib.Dec.{ltb}
+use Rattle.rules.specs.declared.Refusal.the-variants.{OutputShort}
+use Rattle.rules.specs.Basics.{if_then_else_}
 use Rattle.rules.specs.declared.Place.{Place}
 use Rattle.rules.specs.Refusals.{number, Result, good, refused, Told, gives, refusedWith, told}
 use Rattle.rules.specs.Lookups.{Sought, cutLine, noCutLine}
 use Rattle.rules.specs.Styles.{withBend, withoutBend}
 use Rattle.rules.specs.Styles as Rules
+use Rattle.rules.specs.Moves.{Move as WholeMove}
 use Rattle.tool.specs.declared.Move.{Move}
 use Rattle.answers.specs.declared.Written.{Written}
 use Rattle.answers.specs.declared.Written.the-variants as Written
@@ -19,6 +25,8 @@ use Rattle.answers.specs.declared.Moved.{Moved}
 use Rattle.answers.specs.declared.Moved.the-variants as Moved
 use Rattle.answers.specs.declared.Counted.{Counted}
 use Rattle.answers.specs.declared.Counted.the-variants as Counted
+use Rattle.answers.specs.declared.Listed.{Listed}
+use Rattle.answers.specs.declared.Listed.the-variants as Listed
 
 -- the number of bytes written
 abbrev pub toldWritten : Written → Told ℕ
@@ -49,6 +57,12 @@ abbrev pub toldCount : Counted → Told ℕ
 toldCount (Counted.Moves n) = gives n
 toldCount (Counted.Refused r p) = refusedWith (number r) p
 
+abbrev pub toldListed : Listed → Told ℕ
+toldListed (Listed.Moves n) = gives n
+toldListed Listed.KindsShort = refusedWith (number OutputShort) 0
+toldListed Listed.NumbersShort = refusedWith (number OutputShort) 0
+toldListed (Listed.Refused r p) = refusedWith (number r) p
+
 -- ---- the case for what the rules give, which tells that
 
 abbrev pub pointSeen : Result Place → PointSeen
@@ -68,3 +82,8 @@ pub line-told : (o : Result Rules.LineSeen) → toldLine (lineSeen o) ≡ told o
 line-told (good (withBend l b)) = refl
 line-told (good (withoutBend l)) = refl
 line-told (refused r p) = refl
+
+-- all moves, for buffers of these lengths
+abbrev pub listedFor : ℕ → ℕ → Result (List WholeMove) → Listed
+listedFor kinds numbers (refused r p) = Listed.Refused r p
+listedFor kinds numbers (good ms) = if ltb kinds (length ms) then Listed.KindsShort else if ltb numbers (2 * length ms) then Listed.NumbersShort else Listed.Moves (length ms)

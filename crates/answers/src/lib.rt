@@ -41,6 +41,14 @@ pub enum Counted {
     Refused(Refusal, usize),
 }
 
+// All moves, written into two buffers: how many there are, or the buffer that is too short.
+pub enum Listed {
+    Moves(usize),
+    KindsShort,
+    NumbersShort,
+    Refused(Refusal, usize),
+}
+
 // A refusal's number in document 01.
 pub fn refusal_number(r: Refusal) -> u16
     ensures { λ v. ⌜ v ≡ number r ⌝ }

@@ -1,5 +1,5 @@
 pub mod Numbering
+pub mod Finding
 pub mod Whole
-pub mod Cuts
-pub mod Grid
 pub mod Seen
+pub mod Lists

@@ -1,112 +1,55 @@
--- The moves of a drawing by number: p each time that a line is cut, five or four by its style, and move i is move i % p of cut i / p.
-use Prim.Native.Nat.{ℕ, zero, suc, _+_, _*_, _/_, _%_, _<_, _≤_}
-use native.Mathlib.Nat.{div-add-mod'}
+-- The moves of a drawing, line by line: how many stand before a line's, and which is which.
+use Prim.Native.Nat.{ℕ, zero, suc, _+_, _-_, _<_, _≤_}
 use native.Mathlib.Omega.{arith}
 use mathlib.Core.Path.{_≡_, refl, sym, ap, _∙_}
-use mathlib.Core.List.{List, [], _∷_, _++_, append-assoc}
-use lib.ListN.{length, getD, length-append, List·getD-append}
-use lib.Seq.{getD-append-add}
-use Rattle.rules.specs.declared.Style.{Style}
-use Rattle.rules.specs.declared.Style.the-variants.{OneBend, Straight}
-use Rattle.rules.specs.declared.Kind.{Kind}
-use Rattle.rules.specs.declared.Kind.the-variants.{Guide, Plain, Feeder}
+use mathlib.Core.List.{List, [], _∷_, _++_, append-nil, append-assoc}
+use lib.ListN.{length, getD, take, drop, length-append, List·getD-append}
+use lib.Seq.{take-suc, take-all, split-at, getD-append-add}
 use Rattle.rules.specs.declared.Line.{Line}
-use Rattle.rules.specs.declared.Bend.the-variants.{NoBend}
-use Rattle.rules.specs.Points.{Drawing as Plan, placeOf}
-use Rattle.rules.specs.Ports.{bendPlace}
-use Rattle.rules.specs.Moves.{Tool, Move, lift, lineMoves, repeated, movesOver}
-use Rattle.tool.specs.Showing.{movesPer, moves-per}
-
--- a line as often as it is cut
-abbrev pub asCut : Kind → Line → List Line
-asCut Guide l = []
-asCut Plain l = l ∷ []
-asCut Feeder l = l ∷ l ∷ []
-
--- the lines, each as often as it is cut, in line order
-abbrev pub cutLines : List Line → List Line
-cutLines [] = []
-cutLines (l ∷ ls) = asCut (l .kind) l ++ cutLines ls
-
--- what stands past the end of a list of lines
-abbrev pub noLine : Line
-noLine = record { later = 0; earlier = 0; bend = NoBend; kind = Guide }
-
--- the moves of a line, each time that it is cut
-abbrev pub movesOnce : Plan → Tool → Line → List Move
-movesOnce q t l = lineMoves (q .style) (q .s) t (placeOf q (l .later)) (bendPlace q l) (placeOf q (l .earlier))
-
--- Whose cut a number falls into, and where in it.
-cut-before : (τ : Style) (i n : ℕ) → i < movesPer τ * n → i / movesPer τ < n
-cut-before OneBend i n h = omega arith
-cut-before Straight i n h = omega arith
-
-pub before-cut : (τ : Style) (i n : ℕ) → i / movesPer τ < n → i < movesPer τ * n
-before-cut OneBend i n h = omega arith
-before-cut Straight i n h = omega arith
-
-pub past-cut : (τ : Style) (i n : ℕ) → n ≤ i / movesPer τ → movesPer τ * n ≤ i
-past-cut OneBend i n h = omega arith
-past-cut Straight i n h = omega arith
-
-pub in-cut : (τ : Style) (i : ℕ) → i % movesPer τ < movesPer τ
-in-cut OneBend i = omega arith
-in-cut Straight i = omega arith
+use Rattle.rules.specs.Points.{Drawing as Plan, lineAt}
+use Rattle.rules.specs.Moves.{Tool, Move, lift, movesOf, movesOver, allMoves}
 
 module _ (q : Plan) (t : Tool) where
-  -- how many moves a cut has
-  abbrev p : ℕ
-  p = movesPer (q .style)
+  -- the moves of the first e lines
+  abbrev pub movesTo : ℕ → List Move
+  movesTo e = movesOver q t (take e (q .lines))
 
-  once : (l : Line) → length (movesOnce q t l) ≡ p
-  once l = moves-per (q .style) (q .s) t (placeOf q (l .later)) (bendPlace q l) (placeOf q (l .earlier))
+  over-append : (ls ms : List Line) → movesOver q t (ls ++ ms) ≡ movesOver q t ls ++ movesOver q t ms
+  over-append [] ms = refl
+  over-append (l ∷ ls) ms = ap (λ (l′ : List Move). movesOf q t l ++ l′) (over-append ls ms) ∙ sym (append-assoc (movesOf q t l) (movesOver q t ls) (movesOver q t ms))
 
-  -- So many for each cut.
-  pub each-cut : (ls : List Line) → length (movesOver q t ls) ≡ movesPer (q .style) * length (cutLines ls)
-  each-cut [] = omega arith
-  each-cut (l ∷ ls) = go (l .kind) (each-cut ls)
-    where
-      once-more : (ms : List Move) (n : ℕ) → length ms ≡ p * n → length (movesOnce q t l ++ ms) ≡ p * suc n
-      once-more ms n h = omega (arith, length-append (movesOnce q t l) ms, once l)
+  over-one : (l : Line) → movesOver q t (l ∷ []) ≡ movesOf q t l
+  over-one l = append-nil (movesOf q t l)
 
-      go : (k : Kind) → length (movesOver q t ls) ≡ p * length (cutLines ls) → length (repeated k (movesOnce q t l) ++ movesOver q t ls) ≡ p * length (asCut k l ++ cutLines ls)
-      go Guide h = h
-      go Plain h = once-more (movesOver q t ls) (length (cutLines ls)) h
-      go Feeder h =
-          let ms = movesOver q t ls in
-          let n = length (cutLines ls) in
-          ap length (append-assoc (movesOnce q t l) (movesOnce q t l) ms) ∙ once-more (movesOnce q t l ++ ms) (suc n) (once-more ms n h)
+  -- one line more
+  pub to-next : (e : ℕ) → e < length (q .lines) → movesTo (suc e) ≡ movesTo e ++ movesOf q t (lineAt q e)
+  to-next e h = ap (movesOver q t) (take-suc (q .lines) e _ h) ∙ over-append (take e (q .lines)) (lineAt q e ∷ []) ∙ ap (λ (l : List Move). movesTo e ++ l) (over-one (lineAt q e))
 
-  -- Move r of each of the cuts of some lines is move r of the line's own.
-  abbrev ByCut : ℕ → List Move → List Line → Type 0
-  ByCut r ms ls = (j : ℕ) → j < length ls → getD ms (j * p + r) (lift 0) ≡ getD (movesOnce q t (getD ls j noLine)) r (lift 0)
+  -- all lines
+  pub to-all : (e : ℕ) → length (q .lines) ≤ e → movesTo e ≡ allMoves q t
+  to-all e h = ap (movesOver q t) (take-all e (q .lines) h)
 
-  -- One cut more in front.
-  cut-more : (l : Line) (ms : List Move) (ls : List Line) (r : ℕ) → r < p → ByCut r ms ls → ByCut r (movesOnce q t l ++ ms) (l ∷ ls)
-  cut-more l ms ls r k rest zero h =
-      let e : 0 * p + r ≡ r = omega arith in
-      rw e (List·getD-append (movesOnce q t l) ms (lift 0) r (omega (arith, once l)))
-  cut-more l ms ls r k rest (suc j) h =
-      let e : suc j * p + r ≡ length (movesOnce q t l) + (j * p + r) = omega (arith, once l) in
-      ap (λ (m : ℕ). getD (movesOnce q t l ++ ms) m (lift 0)) e ∙ getD-append-add (movesOnce q t l) ms (j * p + r) (lift 0) ∙ rest j (omega arith)
+  -- the moves up to a line, its own, and the rest
+  all-split : (e : ℕ) → e < length (q .lines) → allMoves q t ≡ movesTo e ++ (movesOf q t (lineAt q e) ++ movesOver q t (drop (suc e) (q .lines)))
+  all-split e h = ap (movesOver q t) (split-at (q .lines) e _ h) ∙ over-append (take e (q .lines)) (lineAt q e ∷ drop (suc e) (q .lines))
 
-  -- Move r of cut j.
-  of-line : (ls : List Line) (r : ℕ) → r < p → ByCut r (movesOver q t ls) (cutLines ls)
-  of-line [] r k = λ j h. absurd (omega arith)
-  of-line (l ∷ ls) r k = go (l .kind) (of-line ls r k)
-    where
-      go : (κ : Kind) → ByCut r (movesOver q t ls) (cutLines ls) → ByCut r (repeated κ (movesOnce q t l) ++ movesOver q t ls) (asCut κ l ++ cutLines ls)
-      go Guide rest = rest
-      go Plain rest = cut-more l (movesOver q t ls) (cutLines ls) r k rest
-      go Feeder rest =
-          let ms = movesOver q t ls in
-          λ j h.
-          ap (λ (m : List Move). getD m (j * p + r) (lift 0)) (append-assoc (movesOnce q t l) (movesOnce q t l) ms)
-          ∙ cut-more l (movesOnce q t l ++ ms) (l ∷ cutLines ls) r k (cut-more l ms (cutLines ls) r k rest) j h
+  -- never more than all
+  pub to-most : (e : ℕ) → e < length (q .lines) → length (movesTo e) + length (movesOf q t (lineAt q e)) ≤ length (allMoves q t)
+  to-most e h =
+      omega (arith, ap length (all-split e h), length-append (movesTo e) (movesOf q t (lineAt q e) ++ movesOver q t (drop (suc e) (q .lines))), length-append (movesOf q t (lineAt q e)) (movesOver q t (drop (suc e) (q .lines))))
 
-  -- Move i of all.
-  pub move-by-number : (ls : List Line) (i : ℕ) → i < length (movesOver q t ls) →
-      getD (movesOver q t ls) i (lift 0) ≡ getD (movesOnce q t (getD (cutLines ls) (i / movesPer (q .style)) noLine)) (i % movesPer (q .style)) (lift 0)
-  move-by-number ls i h =
-      let n : i < p * length (cutLines ls) = omega (arith, each-cut ls) in
-      ap (λ (m : ℕ). getD (movesOver q t ls) m (lift 0)) (sym (div-add-mod' i p)) ∙ of-line ls (i % p) (in-cut (q .style) i) (i / p) (cut-before (q .style) i (length (cutLines ls)) n)
+  -- A MOVE BY NUMBER: i is one of line e's, and so it is that line's by what is left of i.
+  pub move-in : (e i : ℕ) → e < length (q .lines) → length (movesTo e) ≤ i → i < length (movesTo e) + length (movesOf q t (lineAt q e)) →
+      (i < length (allMoves q t)) × (getD (allMoves q t) i (lift 0) ≡ getD (movesOf q t (lineAt q e)) (i - length (movesTo e)) (lift 0))
+  move-in e i h low high =
+      let front = movesTo e in
+      let own = movesOf q t (lineAt q e) in
+      let rest = movesOver q t (drop (suc e) (q .lines)) in
+      let j = i - length front in
+      let f : i ≡ length front + j = omega arith in (
+        omega (arith, to-most e h),
+        ap (λ (l : List Move). getD l i (lift 0)) (all-split e h)
+            ∙ ap (λ (n : ℕ). getD (front ++ (own ++ rest)) n (lift 0)) f
+            ∙ getD-append-add front (own ++ rest) j (lift 0)
+            ∙ List·getD-append own rest (lift 0) j (omega arith),
+      )

@@ -1,19 +1,16 @@
 -- What the calls answer, against the rules: a move in f32 with no error, or the same refusal; and how many moves there are.
-use Prim.Native.Nat.{ℕ, _*_, _/_, _%_, _<_, _≤_}
+use Prim.Native.Nat.{ℕ, _-_, _<_, _≤_}
 use native.Mathlib.Omega.{arith}
 use mathlib.Core.Path.{_≡_, refl, sym, ap, subst, _∙_}
+use mathlib.Core.Bool.{true}
 use lib.ListN.{length, getD}
 use lib.Dec.{ltb}
 use borrow.Author.Tests.{lt-ltb, le-ltb}
-use Rattle.rules.specs.declared.Style.{Style}
-use Rattle.rules.specs.declared.Style.the-variants.{OneBend, Straight}
-use Rattle.rules.specs.declared.Line.{Line}
-use Rattle.rules.specs.declared.Place.{Place}
 use Rattle.rules.specs.declared.Refusal.the-variants.{BadTool, Unfinished, NoSuch}
+use Rattle.rules.specs.Bools.{both, in-range}
 use Rattle.rules.specs.Refusals.{Result, good, Told, gives, refusedWith, told, _>>_, refuseIf}
-use Rattle.rules.specs.Points.{Drawing as Plan, placeOf, lineAt}
-use Rattle.rules.specs.Ports.{bendPlace}
-use Rattle.rules.specs.Moves.{Tool as WholeTool, Move as WholeMove, lift, lineMoves, allMoves, moveAt}
+use Rattle.rules.specs.Points.{Drawing as Plan, lineAt}
+use Rattle.rules.specs.Moves.{Tool as WholeTool, Move as WholeMove, isTool, lift, movesOf, allMoves, moveAt}
 use Rattle.store_links.specs.declared.Counts.{Counts}
 use Rattle.store_links.specs.Arrays.{Arrays}
 use Rattle.store_laws.specs.Adding.{Holds}
@@ -22,21 +19,20 @@ use Rattle.tool.specs.declared.Numbers.{Numbers}
 use Rattle.tool.specs.declared.Move.{Move}
 use Rattle.tool.specs.declared.Checked.the-variants.{Good, Bad}
 use Rattle.tool.specs.Checking.{wholeTool, toolOf, checkedOf}
-use Rattle.tool.specs.Showing.{Shows, inFloats, movesPer, lineMove}
+use Rattle.tool.specs.Showing.{IsMove}
 use Rattle.tool.specs.Laws.{good-tool}
 use Rattle.tool.specs.Laws as Laws
 use Rattle.answers.specs.declared.Moved.{Moved}
 use Rattle.answers.specs.declared.Moved.the-variants as Moved
 use Rattle.answers.specs.declared.Counted.the-variants as Counted
 use Rattle.answers.specs.Told.{toldMove, toldCount}
-use Rattle.cutter.specs.Numbering.{cutLines, movesOnce, before-cut, past-cut, each-cut, move-by-number}
+use Rattle.cutter_lines.specs.declared.Groove.{Groove}
+use Rattle.cutter_lines.specs.Grooves.{grooveMoves, grooveMove, total}
+use Rattle.cutter_grooves.specs.Grooves.{grooveOf, groove-moves}
+use Rattle.cutter.specs.declared.Found.{Found}
+use Rattle.cutter.specs.Numbering.{to-all, move-in}
+use Rattle.cutter.specs.Finding.{FindsMove, total-is}
 use Rattle.cutter.specs.Whole.{bad-tool, too-early, past-all, given}
-use Rattle.cutter.specs.Cuts.{cutsTo, NthCut, cuts-all, nth-is, nth-there}
-use Rattle.cutter.specs.Grid.{bendBy}
-
--- the move of floats is the move of whole numbers: in f32, and with no error
-abbrev pub IsMove : Move → WholeMove → Type 0
-IsMove m v = (m ≡ inFloats v) × Shows m v
 
 -- what is said is what the rules give: the same move, or the same number and place
 abbrev pub SaysMove : Told Move → Told WholeMove → Type 0
@@ -54,72 +50,61 @@ moveCount q t = do
   refuseIf (ltb (q .k) (q .n)) Unfinished 0
   good (length (allMoves q t))
 
--- Where a line has no bend, no move asks what stands for it.
-same-moves : (τ : Style) (s : ℕ) (t : WholeTool) (a b e o : Place) → lineMoves τ s t a (bendBy τ b o) e ≡ lineMoves τ s t a b e
-same-moves OneBend s t a b e o = refl
-same-moves Straight s t a b e o = refl
-
--- A move of a line from these places is the move of the drawing's line that has them.
-pub line-moved : (q : Plan) (n : Numbers) (l : Line) {τ : Style} {s : ℕ} {a b e : Place} (i : ℕ) (m : Move) →
-    τ ≡ q .style → s ≡ q .s → a ≡ placeOf q (l .later) → b ≡ bendBy (q .style) (bendPlace q l) e → e ≡ placeOf q (l .earlier) →
-    IsMove m (lineMove τ i s a b e n) → IsMove m (getD (movesOnce q (toolOf n) l) i (lift 0))
-line-moved q n l {τ} {s} {a} {b} {e} i m eτ es ea eb ee is = subst (λ (v : WholeMove). IsMove m v) same is
-  where
-    same : lineMove τ i s a b e n ≡ getD (movesOnce q (toolOf n) l) i (lift 0)
-    same =
-        ap (λ (σ : Style). lineMove σ i s a b e n) eτ
-        ∙ ap (λ (x : ℕ). lineMove (q .style) i x a b e n) es
-        ∙ ap (λ (x : Place). lineMove (q .style) i (q .s) x b e n) ea
-        ∙ ap (λ (x : Place). lineMove (q .style) i (q .s) (placeOf q (l .later)) x e n) eb
-        ∙ ap (λ (x : Place). lineMove (q .style) i (q .s) (placeOf q (l .later)) (bendBy (q .style) (bendPlace q l) e) x n) ee
-        ∙ ap (λ ms. getD ms i (lift 0)) (same-moves (q .style) (q .s) (toolOf n) (placeOf q (l .later)) (bendPlace q l) (placeOf q (l .earlier)) e)
-
 -- 12
 pub seen-bad : (q : Plan) (t : Tool) (i : ℕ) → checkedOf t ≡ Bad → MoveSeen (Moved.Refused BadTool 0) (moveAt q (wholeTool t) i)
 seen-bad q t i e = rw (bad-tool q (wholeTool t) i (Laws.bad-tool t e)) (refl, refl)
 
+-- a tool of the rules has a pitch
+pub wide : (t : WholeTool) → isTool t ≡ true → 1 ≤ t .pitch
+wide t is = in-range 1 80 (t .pitch) (both _ _ is .0) .0
+
 module _ {q : Plan} {a : Arrays} {c : Counts} (h : Holds q a c) where
+  -- a drawing is finished, or not, by the stored numbers
+  pub finished : c .n ≤ c .k → q .n ≤ q .k
+  finished all = omega (arith, h .stores .k, h .stores .n)
+
+  pub early : c .k < c .n → q .k < q .n
+  early b = omega (arith, h .stores .k, h .stores .n)
+
   module _ (t : Tool) (n : Numbers) (ok : checkedOf t ≡ Good n) (i : ℕ) where
     -- 22
     pub seen-early : c .k < c .n → MoveSeen (Moved.Refused Unfinished 0) (moveAt q (wholeTool t) i)
-    seen-early b = rw (too-early q (wholeTool t) i (good-tool t n ok .0) (omega (arith, h .stores .k, h .stores .n))) (refl, refl)
+    seen-early b = rw (too-early q (wholeTool t) i (good-tool t n ok .0) (early b)) (refl, refl)
 
-    -- each is how many moves a cut has
-    module _ (each : ℕ) (so : each ≡ movesPer (q .style)) (all : c .n ≤ c .k) (e : ℕ) (nth : NthCut (a .words) (c .lines) (i / each) e) where
-      finished : q .n ≤ q .k
-      finished = omega (arith, h .stores .k, h .stores .n)
-
-      -- whose cut it is
-      abbrev p : ℕ
-      p = movesPer (q .style)
-
-      whose : NthCut (a .words) (c .lines) (i / p) e
-      whose = subst (λ (x : ℕ). NthCut (a .words) (c .lines) (i / x) e) so nth
-
+    module _ (all : c .n ≤ c .k) (r : Found) (f : FindsMove q (wholeTool t) i r) where
       -- 23
-      pub seen-none : c .lines ≤ e → MoveSeen (Moved.Refused NoSuch 0) (moveAt q (wholeTool t) i)
+      pub seen-none : c .lines ≤ r .line → MoveSeen (Moved.Refused NoSuch 0) (moveAt q (wholeTool t) i)
       seen-none b =
-          let w : length (cutLines (q .lines)) ≤ i / p = omega (arith, cuts-all h, whose .none b) in
-          let l : length (allMoves q (wholeTool t)) ≤ i = omega (arith, each-cut q (wholeTool t) (q .lines), past-cut (q .style) i (length (cutLines (q .lines))) w) in
-          rw (past-all q (wholeTool t) i (good-tool t n ok .0) finished l) (refl, refl)
+          let l : length (allMoves q (wholeTool t)) ≤ i = omega (arith, f .before, f .low, ap length (to-all q (wholeTool t) (r .line) (omega (arith, h .stores .lines)))) in
+          rw (past-all q (wholeTool t) i (good-tool t n ok .0) (finished all) l) (refl, refl)
 
-      -- move i % each of line e
-      pub seen-made : e < c .lines → (m : Move) → IsMove m (getD (movesOnce q (toolOf n) (lineAt q e)) (i % each) (lift 0)) → MoveSeen (Moved.Made m) (moveAt q (wholeTool t) i)
-      seen-made b m v =
-          let g = good-tool t n ok in
-          let w = before-cut (q .style) i (length (cutLines (q .lines))) (nth-there h (i / p) e whose b) in
-          let l : i < length (allMoves q (wholeTool t)) = omega (arith, each-cut q (wholeTool t) (q .lines), w) in
-          let z : getD (allMoves q (wholeTool t)) i (lift 0) ≡ getD (movesOnce q (toolOf n) (lineAt q e)) (i % each) (lift 0) =
-          move-by-number q (wholeTool t) (q .lines) i l
-          ∙ ap (λ (x : Line). getD (movesOnce q (wholeTool t) x) (i % p) (lift 0)) (nth-is h (i / p) e whose b)
-          ∙ ap (λ (x : WholeTool). getD (movesOnce q x (lineAt q e)) (i % p) (lift 0)) (sym (g .1))
-          ∙ ap (λ (x : ℕ). getD (movesOnce q (toolOf n) (lineAt q e)) (i % x) (lift 0)) (sym so) in
-          rw (given q (wholeTool t) i (g .0) finished l, z) v
+      module _ (b : r .line < c .lines) (g : Groove) (is : g ≡ grooveOf q (lineAt q (r .line))) (some : 1 ≤ c .s) where
+        bl : r .line < length (q .lines)
+        bl = omega (arith, h .stores .lines)
+
+        -- it is one of the line's
+        pub seen-within : i - r .before < total g
+        seen-within =
+            omega (arith, total-is q (wholeTool t) (r .line) g is (omega (arith, h .stores .s)) (wide (wholeTool t) (good-tool t n ok .0)), f .high bl, f .low)
+
+        -- the move
+        pub seen-made : (m : Move) → IsMove m (grooveMove (i - r .before) (c .s) n g) → MoveSeen (Moved.Made m) (moveAt q (wholeTool t) i)
+        seen-made m v =
+            let k = good-tool t n ok in
+            let z = move-in q (wholeTool t) (r .line) i bl (omega (arith, f .before, f .low)) (omega (arith, f .before, f .high bl)) in
+            let same : grooveMove (i - r .before) (c .s) n g ≡ getD (allMoves q (wholeTool t)) i (lift 0) =
+            ap (λ (v : Groove). grooveMove (i - r .before) (c .s) n v) is
+            ∙ ap (λ (x : ℕ). grooveMove (i - r .before) x n (grooveOf q (lineAt q (r .line)))) (h .stores .s)
+            ∙ ap (λ (x : WholeTool). getD (grooveMoves (q .s) x (grooveOf q (lineAt q (r .line)))) (i - r .before) (lift 0)) (k .1)
+            ∙ ap (λ l. getD l (i - r .before) (lift 0)) (groove-moves q (wholeTool t) (lineAt q (r .line)))
+            ∙ ap (λ (x : ℕ). getD (movesOf q (wholeTool t) (lineAt q (r .line))) (i - x) (lift 0)) (f .before)
+            ∙ sym (z .1) in
+            rw (given q (wholeTool t) i (k .0) (finished all) (z .0)) (subst (λ (x : WholeMove). IsMove m x) same v)
 
   -- The count.
   module _ (t : WholeTool) where
     pub count-early : c .k < c .n → toldCount (Counted.Refused Unfinished 0) ≡ told (moveCount q t)
-    count-early b = rw (lt-ltb (q .k) (q .n) (omega (arith, h .stores .k, h .stores .n)))
+    count-early b = rw (lt-ltb (q .k) (q .n) (early b))
 
-    pub count-made : {each : ℕ} → each ≡ movesPer (q .style) → c .n ≤ c .k → toldCount (Counted.Moves (each * cutsTo (a .words) (c .lines))) ≡ told (moveCount q t)
-    count-made so b = rw (so, le-ltb (q .k) (q .n) (omega (arith, h .stores .k, h .stores .n)), each-cut q t (q .lines), cuts-all h)
+    pub count-made : {n : ℕ} → n ≡ length (allMoves q t) → c .n ≤ c .k → toldCount (Counted.Moves n) ≡ told (moveCount q t)
+    count-made e b = rw (e, le-ltb (q .k) (q .n) (finished b))

@@ -11,7 +11,7 @@ use Rattle.rules.specs.declared.Refusal.the-variants.{BadTool, Unfinished, NoSu
 use Rattle.rules.specs.Basics.{snoc}
 use Rattle.rules.specs.Refusals.{Result, good, refused}
 use Rattle.rules.specs.Points.{Drawing as Plan}
-use Rattle.rules.specs.Moves.{Tool, Move, lift, isTool, allMoves, moveAt}
+use Rattle.rules.specs.Moves.{Tool, Move, lift, isTool, allMoves, givenMoves, moveAt}
 
 -- the answers to moves 0, .., n - 1
 abbrev pub asked : ℕ → Plan → Tool → List (Result Move)
@@ -24,7 +24,18 @@ pub record AsksAll (q : Plan) (t : Tool) : Type 0 where
   pub past : moveAt q t (length (allMoves q t)) ≡ refused NoSuch 0
   pub all : asked (length (allMoves q t)) q t ≡ map good (allMoves q t)
 
--- the answer to a move, by the tests that it passes
+-- the answer to all moves, and to one, by the tests that it passes
+module _ (q : Plan) (t : Tool) where
+  pub all-bad : isTool t ≡ false → givenMoves q t ≡ refused BadTool 0
+  all-bad e = rw e
+
+  module _ (is : isTool t ≡ true) where
+    pub all-early : q .k < q .n → givenMoves q t ≡ refused Unfinished 0
+    all-early h = rw (is, lt-ltb (q .k) (q .n) h)
+
+    pub all-given : q .n ≤ q .k → givenMoves q t ≡ good (allMoves q t)
+    all-given h = rw (is, le-ltb (q .k) (q .n) h)
+
 module _ (q : Plan) (t : Tool) (i : ℕ) where
   pub bad-tool : isTool t ≡ false → moveAt q t i ≡ refused BadTool 0
   bad-tool e = rw e

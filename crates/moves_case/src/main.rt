@@ -1,4 +1,4 @@
-// Prints the cutter moves of document 01's K4 (n = 5, add 1,3, then 1,4,3,2), one line a move, in eighths of a millimetre: drawn by calls with one tool, and from its order file at scale 8 with another. Then those of request 1's worked case of four points, with a feeder and a guide, and those of request 2's, the same net drawn straight by calls.
+// Prints the cutter moves of document 01's K4 (n = 5, add 1,3, then 1,4,3,2), one line a move, in eighths of a millimetre: drawn by calls with one tool, and from its order file at scale 8 with another. Then those of request 1's worked case of four points, with a feeder and a guide, those of two of request 3's, with bends at points and with guides only, and those of request 2's, the first net drawn straight by calls.
 use answers::Counted;
 use answers::Moved;
 use drawing::Placed;
@@ -64,7 +64,7 @@ fn print_at(v: Placed, t: Tool, number: usize)
 fn print_all(v: Placed, t: Tool)
     requires { ⌜ IsPlaced v ⌝ }
 {
-    let Counted::Moves(n) = cutter::move_count(v.drawing) else {
+    let Counted::Moves(n) = cutter::move_count(v) else {
         return;
     };
     for number in 0..n {
@@ -91,37 +91,35 @@ fn print_straight(t: Tool) {
     print_all(drawing::settle(four.drawing), t);
 }
 
+// A tool of these numbers.
+fn tool_of(pitch: f32, depth: f32, clearance: f32) -> Tool {
+    Tool {
+        pitch,
+        depth,
+        clearance,
+    }
+}
+
 fn main() {
     let opened = drawing::open(Style::OneBend, 5);
     let four = drawing::add(opened.drawing, &[1u16, 3]);
     let five = drawing::add(four.drawing, &[1u16, 4, 3, 2]);
-    print_all(
-        drawing::settle(five.drawing),
-        Tool {
-            pitch: 3.0,
-            depth: 1.0,
-            clearance: 80.0,
-        },
-    );
+    print_all(drawing::settle(five.drawing), tool_of(3.0, 1.0, 80.0));
     print_order(
         b"HD\x00\x05SC\x00\x08PT\x00\x00PT\x00\x01\x00\x01PT\x00\x02\x00\x01\x00\x02PT\x00\x02\x00\x01\x00\x03PT\x00\x04\x00\x01\x00\x04\x00\x03\x00\x02EN",
-        Tool {
-            pitch: 80.0,
-            depth: 40.0,
-            clearance: 1.0,
-        },
+        tool_of(80.0, 40.0, 1.0),
     );
     print_order(
         b"HD\x00\x04PT\x00\x00PT\x00\x01\x00\x01PT\x00\x02\x00\x01\x00\x02PT\x00\x03\x40\x01\x80\x03\x00\x02EN",
-        Tool {
-            pitch: 8.0,
-            depth: 8.0,
-            clearance: 8.0,
-        },
+        tool_of(8.0, 8.0, 8.0),
     );
-    print_straight(Tool {
-        pitch: 1.0,
-        depth: 1.0,
-        clearance: 80.0,
-    });
+    print_order(
+        b"HD\x00\x05PT\x00\x00PT\x00\x01\x00\x01PT\x00\x02\x00\x01\x00\x02PT\x00\x02\x00\x03\x00\x02PT\x00\x04\x00\x01\x00\x03\x00\x04\x00\x02EN",
+        tool_of(8.0, 8.0, 8.0),
+    );
+    print_order(
+        b"HD\x00\x04PT\x00\x00PT\x00\x01\x80\x01PT\x00\x02\x80\x01\x80\x02PT\x00\x03\x80\x01\x80\x03\x80\x02EN",
+        tool_of(8.0, 8.0, 8.0),
+    );
+    print_straight(tool_of(1.0, 1.0, 80.0));
 }

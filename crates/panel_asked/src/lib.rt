@@ -1,7 +1,8 @@
-// What is asked of the drawing in a lent table that goes with an accepting answer: its file, a move, a point, a line, a cut line; or that answer's refusal.
+// What is asked of the drawing in a lent table that goes with an accepting answer: its file, a move, all moves, a point, a line, a cut line; or that answer's refusal.
 // For `panel_c`: it asks that an accepting answer has its drawing.
 use answers::CutSeen;
 use answers::LineSeen;
+use answers::Listed;
 use answers::Moved;
 use answers::PointSeen;
 use answers::Written;
@@ -16,6 +17,7 @@ ghost use Rattle.rules.specs.declared.Answer.the-variants.{Accepted};
 ghost use Rattle.drawing.specs.View.{Came};
 ghost use Rattle.panel_asked.specs.Asking.{Finds};
 ghost use Rattle.panel_asked.specs.Filing.{Filed};
+ghost use Rattle.panel_asked.specs.Listing.{FindsAll};
 ghost use Rattle.panel_asked.specs.Questions.{moveAsked, pointAsked, lineAsked, cutAsked};
 
 // A drawing file as it was written or refused, and the buffer that 24 is of.
@@ -54,6 +56,27 @@ pub fn move_from(answer: Answer, table: &Table, c: Counts, t: Tool, number: usiz
         Answer::Accepted => {
             let x = store_looking::settled(table, c.k);
             cutter::look_move(table, &x, c, t, number)
+        }
+    }
+}
+
+// All moves.
+pub fn moves_from(
+    answer: Answer,
+    table: &Table,
+    c: Counts,
+    t: Tool,
+    kinds: &mut [u8],
+    numbers: &mut [f32],
+) -> Listed
+    requires { ⌜ (answer ≡ Accepted → Came (record { counts = c; table = now table })) ⌝ }
+    ensures { λ r. ⌜ FindsAll answer (now (table .entry)) c t (now (kinds .entry)) (now (numbers .entry)) (now (kinds .exit)) (now (numbers .exit)) r ⌝ }
+{
+    match answer {
+        Answer::Refused(r, p) => Listed::Refused(r, p),
+        Answer::Accepted => {
+            let x = store_looking::settled(table, c.k);
+            cutter::look_moves(table, &x, c, t, kinds, numbers)
         }
     }
 }

@@ -1,5 +1,5 @@
 // What C and Rust call: numbers, slices and arrays only, and no `requires`. Each call is there twice, for drawings with bends and, named `panel_straight_..`, for straight ones.
-// Each call puts three words of a refusal into `refusal`: its number, its place, and at 24 which buffer was short, 1 the output or 2 the answers; all 0 for none.
+// Each call puts three words of a refusal into `refusal`: its number, its place, and at 24 which buffer was short, 1 the output (of moves: the kinds), 2 the answers or 3 the numbers of moves; all 0 for none.
 use rules::Style;
 ghost use Rattle.rules.specs.declared.Style.the-variants.{OneBend, Straight};
 ghost use Rattle.rules.specs.DrawingFile.{drawFile, orderBack};
@@ -7,6 +7,7 @@ ghost use Rattle.panel_words.specs.Words.{outputBuffer};
 ghost use Rattle.panel_asked.specs.Questions.{moveAsked, pointAsked, lineAsked, endsAsked, cutAsked};
 ghost use Rattle.panel_doors.specs.Exported.{Exported, CallsExported};
 ghost use Rattle.panel_doors.specs.Asked.{OrderAsked, CallsAsked};
+ghost use Rattle.panel_doors.specs.Moves.{OrderMoves, CallsMoves};
 
 // Draws an order file: the number of bytes written.
 #[no_mangle]
@@ -88,6 +89,60 @@ pub extern "C" fn panel_calls_move(
         clearance,
         number,
         at,
+        refusal,
+    )
+}
+
+// All moves of an order file's drawing, in their order: how many there are.
+#[no_mangle]
+pub extern "C" fn panel_moves(
+    order: &[u8],
+    pitch: f32,
+    depth: f32,
+    clearance: f32,
+    kinds: &mut [u8],
+    numbers: &mut [f32],
+    refusal: &mut [u64; 3],
+) -> u64
+    ensures { λ r. ⌜ OrderMoves OneBend (record { pitch = pitch; depth = depth; clearance = clearance }) (now (order .entry)) (now (kinds .entry)) (now (numbers .entry)) (now (kinds .exit)) (now (numbers .exit)) r (now (refusal .exit)) ⌝ }
+{
+    panel_doors::moves(
+        Style::OneBend,
+        order,
+        pitch,
+        depth,
+        clearance,
+        kinds,
+        numbers,
+        refusal,
+    )
+}
+
+// The same of the drawing that a list of calls leaves.
+#[no_mangle]
+pub extern "C" fn panel_calls_moves(
+    n: usize,
+    calls: &[u16],
+    answers: &mut [u16],
+    pitch: f32,
+    depth: f32,
+    clearance: f32,
+    kinds: &mut [u8],
+    numbers: &mut [f32],
+    refusal: &mut [u64; 3],
+) -> u64
+    ensures { λ r. ⌜ CallsMoves OneBend (record { pitch = pitch; depth = depth; clearance = clearance }) n (now (calls .entry)) (now (answers .entry)) (now (answers .exit)) (now (kinds .entry)) (now (numbers .entry)) (now (kinds .exit)) (now (numbers .exit)) r (now (refusal .exit)) ⌝ }
+{
+    panel_doors::calls_moves(
+        Style::OneBend,
+        n,
+        calls,
+        answers,
+        pitch,
+        depth,
+        clearance,
+        kinds,
+        numbers,
         refusal,
     )
 }
@@ -260,6 +315,60 @@ pub extern "C" fn panel_straight_calls_move(
         clearance,
         number,
         at,
+        refusal,
+    )
+}
+
+// `panel_moves` of straight drawings.
+#[no_mangle]
+pub extern "C" fn panel_straight_moves(
+    order: &[u8],
+    pitch: f32,
+    depth: f32,
+    clearance: f32,
+    kinds: &mut [u8],
+    numbers: &mut [f32],
+    refusal: &mut [u64; 3],
+) -> u64
+    ensures { λ r. ⌜ OrderMoves Straight (record { pitch = pitch; depth = depth; clearance = clearance }) (now (order .entry)) (now (kinds .entry)) (now (numbers .entry)) (now (kinds .exit)) (now (numbers .exit)) r (now (refusal .exit)) ⌝ }
+{
+    panel_doors::moves(
+        Style::Straight,
+        order,
+        pitch,
+        depth,
+        clearance,
+        kinds,
+        numbers,
+        refusal,
+    )
+}
+
+// `panel_calls_moves` of straight drawings.
+#[no_mangle]
+pub extern "C" fn panel_straight_calls_moves(
+    n: usize,
+    calls: &[u16],
+    answers: &mut [u16],
+    pitch: f32,
+    depth: f32,
+    clearance: f32,
+    kinds: &mut [u8],
+    numbers: &mut [f32],
+    refusal: &mut [u64; 3],
+) -> u64
+    ensures { λ r. ⌜ CallsMoves Straight (record { pitch = pitch; depth = depth; clearance = clearance }) n (now (calls .entry)) (now (answers .entry)) (now (answers .exit)) (now (kinds .entry)) (now (numbers .entry)) (now (kinds .exit)) (now (numbers .exit)) r (now (refusal .exit)) ⌝ }
+{
+    panel_doors::calls_moves(
+        Style::Straight,
+        n,
+        calls,
+        answers,
+        pitch,
+        depth,
+        clearance,
+        kinds,
+        numbers,
         refusal,
     )
 }

@@ -1,28 +1,21 @@
 -- What C is told of a question to the drawing of an order file, or to the drawing that a list of calls leaves: one statement for moves and look-ups.
 use Prim.Native.Nat.{ℕ}
-use mathlib.Core.Path.{_≡_, refl, subst}
 use mathlib.Core.List.{List}
-use native.Mathlib.Omega.{arith}
 use Rattle.rules.specs.declared.Style.{Style}
-use Rattle.rules.specs.declared.Style.the-variants.{OneBend}
-use Rattle.rules.specs.declared.Answer.{Answer}
-use Rattle.rules.specs.declared.Answer.the-variants.{Accepted}
-use Rattle.rules.specs.Refusals.{Result, good, refused}
-use Rattle.rules.specs.Points.{Drawing as Plan, opening}
+use Rattle.rules.specs.Refusals.{Result}
+use Rattle.rules.specs.Points.{Drawing as Plan}
 use Rattle.rules.specs.Calls.{drawn}
 use Rattle.rules.specs.OrderFile.{readOrder}
 use Rattle.store_links.specs.declared.Added.{Added}
 use Rattle.store_tables.specs.Tables.{arraysIn}
 use Rattle.drawing.specs.declared.Done.{Done}
-use Rattle.drawing.specs.View.{Came}
-use Rattle.drawing.specs.Opens.{came-given}
 use Rattle.calls_words.specs.Lists.{callsIn}
 use Rattle.calls.specs.Ran.{Ran}
 use Rattle.read_orders.specs.Points.{Gave}
-use Rattle.panel.specs.Reading.{given}
 use Rattle.panel_words.specs.Words.{noBuffer, answersBuffer}
 use Rattle.panel_told.specs.Telling.{Tells}
 use Rattle.panel_asked.specs.Asking.{outcome, Question, IsAnswer, Finds}
+use Rattle.panel_asked.specs.Read.{outcome-read}
 use Rattle.panel_doors.specs.Exported.{drew}
 
 -- C was told the right answer; the call could find `buffer` too short
@@ -41,25 +34,13 @@ pub record CallsAsked {S A : Type 0} (τ : Style) (ask : Question S A) (n : ℕ)
   pub ran : Ran τ n ws saidBefore saidAfter done
   pub asked : Asked ask answersBuffer (outcome (done .answer) (drawn τ n (callsIn ws))) before after r refusal
 
--- What was read from an accepted order file came so.
-pub came-read : (τ : Style) (f t : List ℕ) (v : Added) → Gave (readOrder τ f) (arraysIn t) v → v .answer ≡ Accepted → Came (record { counts = v .counts; table = t })
-came-read τ f t v g h = came-given (given τ f g {d = record { counts = v .counts; table = t }} refl refl h) h
+module _ {S A : Type 0} (ask : Question S A) (s : S) {before after : List A} {r : ℕ} {refusal : List ℕ} where
+  -- Asked of an order file's drawing.
+  pub of-order : (τ : Style) (f t : List ℕ) {v : Added} → Gave (readOrder τ f) (arraysIn t) v → Finds ask (v .answer) t (v .counts) s → Tells noBuffer (ask .given s) before after r refusal →
+      OrderAsked τ ask f before after r refusal
+  of-order τ f t g finds told = record { seen = s; right = outcome-read (λ o. IsAnswer ask o s) (readOrder τ f) t g finds; told = told }
 
-module _ {S A : Type 0} (ask : Question S A) (s : S) where
-  -- An answer for the drawing in the table that an order file was read into is one for the drawing that the rules give.
-  answer-read : (o : Result Plan) (t : List ℕ) {v : Added} → Gave o (arraysIn t) v → Finds ask (v .answer) t (v .counts) s → IsAnswer ask o s
-  answer-read (good q) t g finds = subst (λ (a : Answer). IsAnswer ask (outcome a q) s) (g .answers) (finds q (λ h. g .holds q refl))
-  answer-read (refused r p) t g finds =
-      subst (λ (a : Answer). IsAnswer ask (outcome a (opening OneBend 3)) s) (g .answers)
-      (finds (opening OneBend 3) (λ h. absurd (let e = g .answers in let z : _≡_ {A = ℕ} 0 1 = cc in omega arith)))
-
-  module _ {before after : List A} {r : ℕ} {refusal : List ℕ} where
-    -- Asked of an order file's drawing.
-    pub of-order : (τ : Style) (f t : List ℕ) {v : Added} → Gave (readOrder τ f) (arraysIn t) v → Finds ask (v .answer) t (v .counts) s → Tells noBuffer (ask .given s) before after r refusal →
-        OrderAsked τ ask f before after r refusal
-    of-order τ f t g finds told = record { seen = s; right = answer-read (readOrder τ f) t g finds; told = told }
-
-    -- Asked of what a list of calls leaves.
-    pub of-calls : {τ : Style} {n : ℕ} {ws saidBefore saidAfter : List ℕ} {done : Done} → Ran τ n ws saidBefore saidAfter done →
-        Finds ask (done .answer) (done .drawing .table) (done .drawing .counts) s → Tells answersBuffer (ask .given s) before after r refusal → CallsAsked τ ask n ws saidBefore saidAfter before after r refusal
-    of-calls {done = done} ran finds told = record { done = done; ran = ran; asked = record { seen = s; right = finds _ (λ e. drew ran e .1); told = told } }
+  -- Asked of what a list of calls leaves.
+  pub of-calls : {τ : Style} {n : ℕ} {ws saidBefore saidAfter : List ℕ} {done : Done} → Ran τ n ws saidBefore saidAfter done →
+      Finds ask (done .answer) (done .drawing .table) (done .drawing .counts) s → Tells answersBuffer (ask .given s) before after r refusal → CallsAsked τ ask n ws saidBefore saidAfter before after r refusal
+  of-calls {done = done} ran finds told = record { done = done; ran = ran; asked = record { seen = s; right = finds _ (λ e. drew ran e .1); told = told } }

@@ -1,5 +1,5 @@
 // What C and Rust call, for either style: for `panel_c`, which gives each call its style and its name. No `requires`.
-// Each call puts three words of a refusal into `refusal`: its number, its place, and at 24 which buffer was short, 1 the output or 2 the answers; all 0 for none.
+// Each call puts three words of a refusal into `refusal`: its number, its place, and at 24 which buffer was short, 1 the output (of moves: the kinds), 2 the answers or 3 the numbers of moves; all 0 for none.
 use panel_words::ANSWERS;
 use panel_words::NO_BUFFER;
 use panel_words::OUTPUT;
@@ -10,6 +10,7 @@ ghost use Rattle.rules.specs.DrawingFile.{drawFile, orderBack};
 ghost use Rattle.panel_words.specs.Words.{outputBuffer};
 ghost use Rattle.panel_doors.specs.Exported.{Exported, CallsExported};
 ghost use Rattle.panel_doors.specs.Asked.{OrderAsked, CallsAsked};
+ghost use Rattle.panel_doors.specs.Moves.{OrderMoves, CallsMoves};
 ghost use Rattle.panel_asked.specs.Questions.{moveAsked, pointAsked, lineAsked, endsAsked, cutAsked};
 
 // Draws an order file: the number of bytes written.
@@ -101,6 +102,60 @@ pub fn calls_move(
     let answer = made.answer;
     let moved = panel_asked::move_from(answer, &table, made.counts, t, number);
     panel_told::tell_move(moved, ANSWERS, at, refusal)
+}
+
+// All moves of an order file's drawing, in their order: how many there are.
+pub fn moves(
+    style: Style,
+    order: &[u8],
+    pitch: f32,
+    depth: f32,
+    clearance: f32,
+    kinds: &mut [u8],
+    numbers: &mut [f32],
+    refusal: &mut [u64; 3],
+) -> u64
+    ensures { λ r. ⌜ OrderMoves style (record { pitch = pitch; depth = depth; clearance = clearance }) (now (order .entry)) (now (kinds .entry)) (now (numbers .entry)) (now (kinds .exit)) (now (numbers .exit)) r (now (refusal .exit)) ⌝ }
+{
+    let mut table = [0u16; END];
+    let read = read_orders::read_order(order, style, &mut table);
+    let t = Tool {
+        pitch,
+        depth,
+        clearance,
+    };
+    let answer = read.answer;
+    let listed = panel_asked::moves_from(answer, &table, read.counts, t, kinds, numbers);
+    panel_told::tell_listed(listed, NO_BUFFER, refusal)
+}
+
+// The same of the drawing that a list of calls leaves.
+pub fn calls_moves(
+    style: Style,
+    n: usize,
+    calls: &[u16],
+    answers: &mut [u16],
+    pitch: f32,
+    depth: f32,
+    clearance: f32,
+    kinds: &mut [u8],
+    numbers: &mut [f32],
+    refusal: &mut [u64; 3],
+) -> u64
+    ensures { λ r. ⌜
+        CallsMoves style (record { pitch = pitch; depth = depth; clearance = clearance }) n (now (calls .entry)) (now (answers .entry)) (now (answers .exit)) (now (kinds .entry)) (now (numbers .entry)) (now (kinds .exit)) (now (numbers .exit)) r (now (refusal .exit))
+        ⌝ }
+{
+    let mut table = [0u16; END];
+    let made = calls::run_in(&mut table, style, n, calls, answers);
+    let t = Tool {
+        pitch,
+        depth,
+        clearance,
+    };
+    let answer = made.answer;
+    let listed = panel_asked::moves_from(answer, &table, made.counts, t, kinds, numbers);
+    panel_told::tell_listed(listed, ANSWERS, refusal)
 }
 
 // A point's place in an order file's drawing.

@@ -1,8 +1,9 @@
 -- What C is told of each answer: "Where the answer is an enum, there is a definition that gives this paper's number and values for each of its cases."
 use Prim.Native.Nat.{ℕ}
 use mathlib.Core.List.{List, [], _∷_}
-use lib.Ieee.{Float, binary32, ofBits}
+use lib.Ieee.{Float}
 use Rattle.rules.specs.declared.Line.{Line}
+use Rattle.rules.specs.declared.Refusal.the-variants.{OutputShort}
 use Rattle.rules.specs.Refusals.{Result, good, refused}
 use Rattle.rules.specs.DrawingFile.{lastField}
 use Rattle.answers.specs.declared.PointSeen.{PointSeen}
@@ -13,10 +14,12 @@ use Rattle.answers.specs.declared.CutSeen.{CutSeen}
 use Rattle.answers.specs.declared.CutSeen.the-variants as Cut
 use Rattle.answers.specs.declared.Written.{Written}
 use Rattle.answers.specs.declared.Written.the-variants as Written
-use Rattle.tool.specs.declared.Move.the-variants as Move
+use Rattle.tool.specs.Showing.{moveKind, moveNumbers}
 use Rattle.answers.specs.declared.Moved.{Moved}
 use Rattle.answers.specs.declared.Moved.the-variants as Moved
-use Rattle.panel_words.specs.Words.{bendKind, portOf}
+use Rattle.answers.specs.declared.Listed.{Listed}
+use Rattle.answers.specs.declared.Listed.the-variants as Listed
+use Rattle.panel_words.specs.Words.{outputBuffer, numbersBuffer, bendKind, portOf}
 use Rattle.panel_told.specs.Telling.{Given, withWords, alone}
 
 -- a file that was written: the number of its bytes
@@ -24,13 +27,24 @@ abbrev pub fileGiven : Written → Result (Given ℕ)
 fileGiven (Written.Bytes k) = good (alone k)
 fileGiven (Written.Refused r p) = refused r p
 
--- 1 travel and 3 cut with two coordinates, 2 plunge and 4 lift with a height and 0
+-- a move: its kind, with its two numbers
 abbrev pub moveGiven : Moved → Result (Given Float)
-moveGiven (Moved.Made (Move.Travel x y)) = good (withWords 1 (x ∷ y ∷ []))
-moveGiven (Moved.Made (Move.Plunge z)) = good (withWords 2 (z ∷ ofBits binary32 0 ∷ []))
-moveGiven (Moved.Made (Move.Cut x y)) = good (withWords 3 (x ∷ y ∷ []))
-moveGiven (Moved.Made (Move.Lift z)) = good (withWords 4 (z ∷ ofBits binary32 0 ∷ []))
+moveGiven (Moved.Made m) = good (withWords (moveKind m) (moveNumbers m))
 moveGiven (Moved.Refused r p) = refused r p
+
+-- all moves: how many there are
+abbrev pub listGiven : Listed → Result (Given ℕ)
+listGiven (Listed.Moves k) = good (alone k)
+listGiven Listed.KindsShort = refused OutputShort 0
+listGiven Listed.NumbersShort = refused OutputShort 0
+listGiven (Listed.Refused r p) = refused r p
+
+-- the buffer that 24 is of: the kinds, the numbers, or with another refusal `buffer`
+abbrev pub shortFor : ℕ → Listed → ℕ
+shortFor buffer (Listed.Moves k) = buffer
+shortFor buffer Listed.KindsShort = outputBuffer
+shortFor buffer Listed.NumbersShort = numbersBuffer
+shortFor buffer (Listed.Refused r p) = buffer
 
 -- "in grid units, a point's place"
 abbrev pub pointGiven : PointSeen → Result (Given ℕ)

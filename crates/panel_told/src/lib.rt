@@ -2,14 +2,17 @@
 // A refusal is the number 0 and leaves the array. For `panel_c`, which has the answers.
 use answers::CutSeen;
 use answers::LineSeen;
+use answers::Listed;
 use answers::Moved;
 use answers::PointSeen;
 use answers::Written;
+use panel_words::NUMBERS;
+use panel_words::OUTPUT;
 use rules::Line;
-use tool::Move;
+use rules::Refusal;
 ghost use mathlib.Core.Path.{_≡_};
 ghost use Rattle.panel_told.specs.Telling.{codeOf, refusalOf, Tells};
-ghost use Rattle.panel_told.specs.Answers.{fileGiven, moveGiven, pointGiven, lineWords, lineGiven, endsWords, endsGiven, cutGiven};
+ghost use Rattle.panel_told.specs.Answers.{fileGiven, moveGiven, listGiven, shortFor, pointGiven, lineWords, lineGiven, endsWords, endsGiven, cutGiven};
 
 // The number of bytes written.
 pub fn tell_written(written: Written, buffer: u64, refusal: &mut [u64; 3]) -> u64
@@ -33,27 +36,35 @@ pub fn tell_move(moved: Moved, buffer: u64, at: &mut [f32; 2], refusal: &mut [u6
 {
     match moved {
         Moved::Made(m) => {
+            *at = tool::move_numbers(m);
             *refusal = [0, 0, 0];
-            match m {
-                Move::Travel(x, y) => {
-                    *at = [x, y];
-                    1
-                }
-                Move::Plunge(z) => {
-                    *at = [z, 0.0];
-                    2
-                }
-                Move::Cut(x, y) => {
-                    *at = [x, y];
-                    3
-                }
-                Move::Lift(z) => {
-                    *at = [z, 0.0];
-                    4
-                }
-            }
+            tool::move_kind(m) as u64
         }
         Moved::Refused(r, p) => {
+            panel_words::refuse(r, p, buffer, refusal);
+            0
+        }
+    }
+}
+
+// All moves: how many there are. 24 tells which of their two buffers is short; with another refusal 24 is of `buffer`.
+pub fn tell_listed(listed: Listed, buffer: u64, refusal: &mut [u64; 3]) -> u64
+    ensures { λ r. ⌜ (r ≡ codeOf (listGiven listed)) × (now (refusal .exit) ≡ refusalOf (shortFor buffer listed) (listGiven listed)) ⌝ }
+{
+    match listed {
+        Listed::Moves(count) => {
+            *refusal = [0, 0, 0];
+            count as u64
+        }
+        Listed::KindsShort => {
+            panel_words::refuse(Refusal::OutputShort, 0, OUTPUT, refusal);
+            0
+        }
+        Listed::NumbersShort => {
+            panel_words::refuse(Refusal::OutputShort, 0, NUMBERS, refusal);
+            0
+        }
+        Listed::Refused(r, p) => {
             panel_words::refuse(r, p, buffer, refusal);
             0
         }

@@ -31,3 +31,4 @@ pub mod Bounds
 pub mod Straight
 pub mod Theorem
 pub mod Kinds
+pub mod Dwelling

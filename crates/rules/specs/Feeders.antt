@@ -103,11 +103,11 @@ pub calledFeeders :
 unfolding callTests judge placedNew addRead
 calledFeeders = (refl, refl, refl, refl, refl, refl, (refl, record { there = omega arith; cuts = refl; ends = refl }), (refl, record { there = omega arith; cuts = refl; ends = refl }))
 
--- n = 4, one feeder, one guide: the five moves of a feeder come twice. Eighths of a millimetre, tool 8, 8, 8.
+-- n = 4, one feeder, one guide: the five moves of a feeder come twice; since request 3 line 1-2 gives four. Eighths of a millimetre, tool 8, 8, 8.
 pub movedFeeders :
     (readOrder OneBend (0x48 ∷ 0x44 ∷ 0x00 ∷ 0x04 ∷ 0x50 ∷ 0x54 ∷ 0x00 ∷ 0x00 ∷ 0x50 ∷ 0x54 ∷ 0x00 ∷ 0x01 ∷ 0x00 ∷ 0x01 ∷ 0x50 ∷ 0x54 ∷ 0x00 ∷ 0x02 ∷ 0x00 ∷ 0x01 ∷ 0x00 ∷ 0x02 ∷ 0x50 ∷ 0x54 ∷ 0x00 ∷ 0x03 ∷ 0x40 ∷ 0x01 ∷ 0x80 ∷ 0x03 ∷ 0x00 ∷ 0x02 ∷ 0x45 ∷ 0x4E ∷ []) >>= λ d. good (allMoves d (record { pitch = 8; depth = 8; clearance = 8 }))) ≡
     good (
-    travel 64 0 ∷ plunge 8 ∷ cut 0 0 ∷ cut 0 0 ∷ lift 8 ∷
+    travel 64 0 ∷ plunge 8 ∷ cut 0 0 ∷ lift 8 ∷
     travel 32 16 ∷ plunge 8 ∷ cut 24 8 ∷ cut 0 0 ∷ lift 8 ∷
     travel 32 16 ∷ plunge 8 ∷ cut 40 8 ∷ cut 64 0 ∷ lift 8 ∷
     travel 32 24 ∷ plunge 8 ∷ cut 24 16 ∷ cut 0 0 ∷ lift 8 ∷

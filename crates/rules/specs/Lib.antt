@@ -13,13 +13,15 @@ pub mod Records
 pub mod OrderFile
 pub mod DrawingFile
 pub mod Decimal
-pub mod Output
 pub mod Lookups
 pub mod Moves
+pub mod Output
+pub mod MoveLines
 pub mod Ten
 pub mod Cases
 pub mod Feeders
 pub mod Straights
+pub mod Dwells
 pub mod Bools
 pub mod Results
 pub mod Numbers
@@ -27,3 +29,4 @@ pub mod Readings
 pub mod Lengths
 pub mod Same
 pub mod RoundTrip
+pub mod Dwelling

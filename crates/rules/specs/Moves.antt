@@ -1,17 +1,17 @@
--- "Cutter moves", over whole numbers: eighths of a millimetre.
+-- "Cutter moves", over whole numbers: eighths of a millimetre; with document 02, wish 3.
 use Prim.Native.Nat.{ℕ, _*_}
 use mathlib.Core.Bool.{Bool, not, _&&_}
 use mathlib.Core.List.{List, [], _∷_, _++_}
 use lib.ListN.{length, getD}
-use lib.Dec.{ltb}
+use lib.Dec.{ltb, eqb}
 use Rattle.rules.specs.declared.Style.{Style}
 use Rattle.rules.specs.declared.Kind.{Kind}
 use Rattle.rules.specs.declared.Kind.the-variants.{Guide, Plain, Feeder}
 use Rattle.rules.specs.declared.Line.{Line}
 use Rattle.rules.specs.declared.Place.{Place}
 use Rattle.rules.specs.declared.Refusal.the-variants.{BadTool, Unfinished, NoSuch}
-use Rattle.rules.specs.Basics.{between}
-use Rattle.rules.specs.Refusals.{Result, good, _>>_, refuseIf}
+use Rattle.rules.specs.Basics.{if_then_else_, between}
+use Rattle.rules.specs.Refusals.{Result, good, _>>_, _>>=_, refuseIf}
 use Rattle.rules.specs.Styles.{ofBend}
 use Rattle.rules.specs.Points.{Drawing, placeOf}
 use Rattle.rules.specs.Ports.{bendPlace}
@@ -44,16 +44,28 @@ lineMoves style s t later bend earlier =
     (cut (eighths s t (earlier .x)) (eighths s t (earlier .y)) ∷
     lift (t .clearance) ∷ []))
 
--- "Each cut line gives five moves", a straight one four. "A feeder gives its five moves twice in succession."
+-- Document 02, wish 3: "a cut move whose target equals the place before it is left out". (x, y) is the place before these moves.
+abbrev pub withoutDwelling : ℕ → ℕ → List Move → List Move
+withoutDwelling x y [] = []
+withoutDwelling x y (travel a b ∷ ms) = travel a b ∷ withoutDwelling a b ms
+withoutDwelling x y (cut a b ∷ ms) = (if eqb a x && eqb b y then [] else cut a b ∷ []) ++ withoutDwelling a b ms
+withoutDwelling x y (plunge z ∷ ms) = plunge z ∷ withoutDwelling x y ms
+withoutDwelling x y (lift z ∷ ms) = lift z ∷ withoutDwelling x y ms
+
+-- the moves of a line, each time that it is cut; they begin with a travel, so the place before them isn't asked
+abbrev pub movesOnce : Drawing → Tool → Line → List Move
+movesOnce d t l = withoutDwelling 0 0 (lineMoves (d .style) (d .s) t (placeOf d (l .later)) (bendPlace d l) (placeOf d (l .earlier)))
+
+-- "Each cut line gives" these moves. "A feeder gives its .. moves twice in succession."
 abbrev pub repeated : Kind → List Move → List Move
 repeated Guide once = []
 repeated Plain once = once
 repeated Feeder once = once ++ once
 
 abbrev pub movesOf : Drawing → Tool → Line → List Move
-movesOf d t l = repeated (l .kind) (lineMoves (d .style) (d .s) t (placeOf d (l .later)) (bendPlace d l) (placeOf d (l .earlier)))
+movesOf d t l = repeated (l .kind) (movesOnce d t l)
 
--- "Moves are numbered from 0 through the cut lines in line order."
+-- "Moves are numbered from 0 through the cut lines in line order", "over the shortened list".
 abbrev pub movesOver : Drawing → Tool → List Line → List Move
 movesOver d t [] = []
 movesOver d t (l ∷ ls) = movesOf d t l ++ movesOver d t ls
@@ -61,10 +73,16 @@ movesOver d t (l ∷ ls) = movesOf d t l ++ movesOver d t ls
 abbrev pub allMoves : Drawing → Tool → List Move
 allMoves d t = movesOver d t (d .lines)
 
+-- all moves at once, in that order: 12, 22
+abbrev pub givenMoves : Drawing → Tool → Result (List Move)
+givenMoves d t = do
+  refuseIf (not (isTool t)) BadTool 0
+  refuseIf (ltb (d .k) (d .n)) Unfinished 0
+  good (allMoves d t)
+
 -- "given one at a time by number. Order of refusals: 12, 22, 23."
 abbrev pub moveAt : Drawing → Tool → ℕ → Result Move
 moveAt d t i = do
-  refuseIf (not (isTool t)) BadTool 0
-  refuseIf (ltb (d .k) (d .n)) Unfinished 0
-  refuseIf (not (ltb i (length (allMoves d t)))) NoSuch 0
-  good (getD (allMoves d t) i (lift 0))
+  ms ← givenMoves d t
+  refuseIf (not (ltb i (length ms))) NoSuch 0
+  good (getD ms i (lift 0))

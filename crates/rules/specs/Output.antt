@@ -1,5 +1,5 @@
 -- Outputs: "Output past the written bytes stays"; "24 always has place 0" and is tested last; "a refusal changes no output byte".
-use Prim.Native.Nat.{ℕ}
+use Prim.Native.Nat.{ℕ, _*_}
 use mathlib.Core.List.{List, [], _∷_, _++_}
 use lib.ListN.{length, take, drop}
 use lib.Dec.{ltb}
@@ -8,24 +8,33 @@ use Rattle.rules.specs.declared.Refusal.the-variants.{OutputShort}
 use Rattle.rules.specs.Refusals.{Result, good, refused, number, _>>_, _>>=_, refuseIf}
 use Rattle.rules.specs.Decimal.{digits}
 use Rattle.rules.specs.DrawingFile.{drawFile, orderBack}
+use Rattle.rules.specs.Moves.{Move}
 
--- the bytes that a call writes into a buffer of this length, or its refusal
-abbrev pub fitted : List ℕ → Result (List ℕ) → Result (List ℕ)
+-- the bytes, or other elements, that a call writes into a buffer of this length, or its refusal
+abbrev pub fitted : {A : Type 0} → List A → Result (List A) → Result (List A)
 fitted buffer wanted = do
   bytes ← wanted
   refuseIf (ltb (length buffer) (length bytes)) OutputShort 0
   good bytes
 
--- how many bytes that is
-abbrev pub counted : Result (List ℕ) → Result ℕ
+-- how many that is
+abbrev pub counted : {A : Type 0} → Result (List A) → Result ℕ
 counted wanted = do
   bytes ← wanted
   good (length bytes)
 
 -- what the buffer holds afterwards
-abbrev pub filled : List ℕ → Result (List ℕ) → List ℕ
+abbrev pub filled : {A : Type 0} → List A → Result (List A) → List A
 filled buffer (good bytes) = bytes ++ drop (length bytes) buffer
 filled buffer (refused r p) = buffer
+
+-- Moves go into two buffers, one for their kinds and one for two numbers a move, here of these lengths; 24 for the first one that is too short.
+abbrev pub roomFor : ℕ → ℕ → Result (List Move) → Result (List Move)
+roomFor kinds numbers wanted = do
+  ms ← wanted
+  refuseIf (ltb kinds (length ms)) OutputShort 0
+  refuseIf (ltb numbers (2 * length ms)) OutputShort 0
+  good ms
 
 -- ---- "The drawing program reads an order file from standard input and writes the drawing, or the line `refused N at P`."
 

@@ -88,7 +88,7 @@ pub others :
     (filled (wholeDrawing ++ (9 ∷ 9 ∷ [])) (drawFile OneBend wholeOrder) ≡ wholeDrawing ++ (9 ∷ 9 ∷ [])) ×
     (refusalLine 11 147 ≡ 114 ∷ 101 ∷ 102 ∷ 117 ∷ 115 ∷ 101 ∷ 100 ∷ 32 ∷ 49 ∷ 49 ∷ 32 ∷ 97 ∷ 116 ∷ 32 ∷ 49 ∷ 52 ∷ 55 ∷ 10 ∷ []) ×
     (lookPoint K4 5 ≡ good (at 6 5)) × (lookPoint K4 6 ≡ refused NoSuch 0) × (lookPoint K4 0 ≡ refused NoSuch 0) ×
-    (moveAt K4 tool 27 ≡ good (cut 320 240)) × (moveAt K4 tool 45 ≡ refused NoSuch 0) × (moveAt K3 tool 0 ≡ refused Unfinished 0) ×
+    (moveAt K4 tool 25 ≡ good (cut 320 240)) × (moveAt K4 tool 42 ≡ refused NoSuch 0) × (moveAt K3 tool 0 ≡ refused Unfinished 0) ×
     (moveAt K3 (record { pitch = 81; depth = 40; clearance = 1 }) 0 ≡ refused BadTool 0)
 unfolding callTests judge placedNew addRead readRest readPoints readOrder drawingBytes digits
 others = (refl, refl, refl, refl, refl, refl, refl, refl, refl, refl)

@@ -16,7 +16,7 @@ use Rattle.tool.specs.declared.Tool.{Tool}
 use Rattle.tool.specs.declared.Checked.the-variants.{Good, Bad}
 use Rattle.tool.specs.Checking.{wholeNumber, WholePart, checkedOf}
 use Rattle.tool.specs.Laws.{quotient, is-number, number-is, at-most}
-use Rattle.tool.proofs.Exact.{whole}
+use Rattle.tool.specs.Exact.{whole}
 
 -- equal signs, or both zero
 same-sign : (s : Bool) (a : ℕ) → 0 < a → T (Bool·beq s false || eqb a 0) → s ≡ false

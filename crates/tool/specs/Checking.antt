@@ -47,8 +47,9 @@ abbrev pub toldTool : Checked → Told WholeTool
 toldTool (Good n) = gives (toolOf n)
 toldTool Bad = refusedWith 12 0
 
--- a tool's numbers are not above "pitch 80, depth 40, clearance 80"
+-- a tool's numbers are not above "pitch 80, depth 40, clearance 80", and the pitch isn't 0
 pub record InRange (n : Numbers) : Type 0 where
+  pub some : 1 ≤ n .pitch
   pub pitch : n .pitch ≤ 80
   pub depth : n .depth ≤ 40
   pub clearance : n .clearance ≤ 80

@@ -12,7 +12,8 @@ use borrow.Author.Tests.{le-leb, leb-true, eqb-true}
 use lib.Ieee.{Float, nan, inf, fin, up, down}
 use lib.Ieee.Fits.{down-pos}
 use lib.Ieee.Exact.{HasValue}
-use Rattle.rules.specs.Basics.{if_then_else_}
+use Rattle.rules.specs.Basics.{if_then_else_, between}
+use Rattle.rules.specs.Bools.{both, in-range}
 use Rattle.rules.specs.declared.Refusal.the-variants.{BadTool}
 use Rattle.rules.specs.Refusals.{good, told, refuseIf, _>>_}
 use Rattle.rules.specs.Moves.{isTool}
@@ -74,7 +75,7 @@ good-tool t n h = go (isTool (wholeTool t)) refl h
     go : (b : Bool) → isTool (wholeTool t) ≡ b → (if b then Good (numbersOf (wholeTool t)) else Bad) ≡ Good n → (isTool (wholeTool t) ≡ true) × (toolOf n ≡ wholeTool t) × InRange n
     go true i e =
         let same : numbersOf (wholeTool t) ≡ n = cc in
-        (i, rw (sym same), subst InRange same (record { pitch = at-most 80 (t .pitch); depth = at-most 40 (t .depth); clearance = at-most 80 (t .clearance) }))
+        (i, rw (sym same), subst InRange same (record { some = in-range 1 80 (wholeNumber 80 (t .pitch)) (both (between 1 80 (wholeNumber 80 (t .pitch))) (between 1 40 (wholeNumber 40 (t .depth)) && between 1 80 (wholeNumber 80 (t .clearance))) i .0) .0; pitch = at-most 80 (t .pitch); depth = at-most 40 (t .depth); clearance = at-most 80 (t .clearance) }))
     go false i e = absurd (let z : _≡_ {A = ℕ} 0 1 = cc in omega arith)
 
 pub bad-tool : (t : Tool) → checkedOf t ≡ Bad → isTool (wholeTool t) ≡ false

@@ -1,3 +1,4 @@
 pub mod Checking
 pub mod Showing
 pub mod Laws
+pub mod Exact

@@ -1,12 +1,8 @@
-// The tool's numbers, and the moves of one line in f32, exactly.
+// The tool's numbers, and a move of the cutter in f32: eighths of a millimetre, exactly.
 ghost use mathlib.Core.Path.{_≡_};
-ghost use Prim.Native.Nat.{_*_, _≤_, _<_};
-ghost use Rattle.rules.specs.Moves.{cut};
-ghost use Rattle.tool.specs.Checking.{wholeNumber, WholePart, checkedOf, InRange};
-ghost use Rattle.tool.specs.Showing.{Shows, overEight, inFloats, movesPer, stepOf, lineMove, OnGrid};
-ghost use Rattle.rules.specs.declared.Style.the-variants.{OneBend};
-use rules::Place;
-use rules::Style;
+ghost use Prim.Native.Nat.{_≤_, _<_};
+ghost use Rattle.tool.specs.Checking.{wholeNumber, WholePart, checkedOf};
+ghost use Rattle.tool.specs.Showing.{overEight, moveKind, moveNumbers};
 
 // The tool as it is handed over: each f32 a whole number of eighths of a millimetre.
 pub struct Tool {
@@ -36,8 +32,8 @@ pub enum Move {
     Lift(f32),
 }
 
-// x without its fraction; 0 where that isn't a u64.
-fn whole_part(x: f32) -> u64
+// x without its fraction; 0 where that isn't a u64. For `printing_move` too.
+pub fn whole_part(x: f32) -> u64
     ensures { λ r. ⌜ WholePart x r ⌝ }
 {
     if x > -1.0 && x < 18446744073709551616.0 {
@@ -75,82 +71,34 @@ pub fn check_tool(t: Tool) -> Checked
     })
 }
 
-// n eighths of a millimetre, with no error.
-fn over_eight(n: u32) -> f32
+// n eighths of a millimetre, with no error. For `cutter_lines`: it asks that n is an f32.
+pub fn over_eight(n: u32) -> f32
     requires { ⌜ n < 16777216 ⌝ }
     ensures { λ r. ⌜ r ≡ overEight n ⌝ }
 {
     n as f32 / 8.0
 }
 
-// A grid coordinate in millimetres: the whole product, over 8.
-fn coordinate(s: usize, c: u16, pitch: u32) -> f32
-    requires { ⌜ (s ≤ 8) × (c ≤ 5111) × (pitch ≤ 80) ⌝ }
-    ensures { λ r. ⌜ r ≡ overEight (s * c * pitch) ⌝ }
+// What kind of move it is: 1 travel, 2 plunge, 3 cut, 4 lift.
+pub fn move_kind(m: Move) -> u8
+    ensures { λ r. ⌜ r ≡ moveKind m ⌝ }
 {
-    over_eight((s as u32) * (c as u32) * pitch)
-}
-
-// The cut to a place on the grid.
-fn cut_to(s: usize, p: Place, pitch: u32) -> Move
-    requires { ⌜ (s ≤ 8) × OnGrid p × (pitch ≤ 80) ⌝ }
-    ensures { λ r. ⌜ r ≡ inFloats (cut (s * p .x * pitch) (s * p .y * pitch)) ⌝ }
-{
-    Move::Cut(coordinate(s, p.x, pitch), coordinate(s, p.y, pitch))
-}
-
-// Move `which`, from 0, of the five of a line from its later point over the bend to its earlier point.
-fn bent_move(which: usize, s: usize, later: Place, bend: Place, earlier: Place, t: Numbers) -> Move
-    requires { ⌜ (which < 5) × (s ≤ 8) × OnGrid later × OnGrid bend × OnGrid earlier × InRange t ⌝ }
-    ensures { λ r. ⌜ (r ≡ inFloats (lineMove OneBend which s later bend earlier t)) × Shows r (lineMove OneBend which s later bend earlier t) ⌝ }
-{
-    match which {
-        0 => Move::Travel(
-            coordinate(s, later.x, t.pitch),
-            coordinate(s, later.y, t.pitch),
-        ),
-        1 => Move::Plunge(-over_eight(t.depth)),
-        2 => cut_to(s, bend, t.pitch),
-        3 => cut_to(s, earlier, t.pitch),
-        _ => Move::Lift(over_eight(t.clearance)),
+    match m {
+        Move::Travel(_, _) => 1,
+        Move::Plunge(_) => 2,
+        Move::Cut(_, _) => 3,
+        Move::Lift(_) => 4,
     }
 }
 
-// How many moves a line has each time that it is cut.
-pub fn moves_per(style: Style) -> usize
-    ensures { λ r. ⌜ r ≡ movesPer style ⌝ }
-    ensures some { λ r. ⌜ (4 ≤ r) × (r ≤ 5) ⌝ }
+// Its two numbers: x and y, or a height and 0.
+pub fn move_numbers(m: Move) -> [f32; 2]
+    ensures { λ r. ⌜ r ≡ moveNumbers m ⌝ }
 {
-    match style {
-        Style::OneBend => 5,
-        Style::Straight => 4,
+    match m {
+        Move::Travel(x, y) => [x, y],
+        Move::Plunge(z) => [z, 0.0],
+        Move::Cut(x, y) => [x, y],
+        Move::Lift(z) => [z, 0.0],
     }
-}
-
-// Which of the five moves of a line with a bend is move `which` of a line: a straight one has all but the cut to the bend.
-fn step_of(style: Style, which: usize) -> usize
-    requires { ⌜ which < movesPer style ⌝ }
-    ensures { λ r. ⌜ r ≡ stepOf style which ⌝ }
-{
-    match style {
-        Style::OneBend => which,
-        Style::Straight => { if which < 2 { which } else { which + 1 } }
-    }
-}
-
-// Move `which`, from 0, of a line from its later point, over the bend if it has one, to its earlier point; of a straight line the bend isn't looked at.
-// For `cutter`: it asks for places on the grid and numbers in range, which are tested or proved there.
-pub fn line_move(
-    style: Style,
-    which: usize,
-    s: usize,
-    later: Place,
-    bend: Place,
-    earlier: Place,
-    t: Numbers,
-) -> Move
-    requires { ⌜ (which < movesPer style) × (s ≤ 8) × OnGrid later × OnGrid bend × OnGrid earlier × InRange t ⌝ }
-    ensures { λ r. ⌜ (r ≡ inFloats (lineMove style which s later bend earlier t)) × Shows r (lineMove style which s later bend earlier t) ⌝ }
-{
-    bent_move(step_of(style, which), s, later, bend, earlier, t)
 }

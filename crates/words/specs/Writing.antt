@@ -1,4 +1,4 @@
--- Bytes and numbers stored into a buffer, one behind the other, for everything that writes a file: laws over plain lists.
+-- Bytes and numbers stored into a buffer, one behind the other, for everything that writes a file or a list: laws over plain lists.
 use Prim.Native.Nat.{ℕ, suc, _+_, _*_, _≤_}
 use mathlib.Core.Path.{_≡_, refl, ap, sym, _∙_, subst}
 use mathlib.Core.List.{List, [], _∷_, _++_}
@@ -13,35 +13,36 @@ use Rattle.rules.specs.Output.{filled}
 use Rattle.rules.specs.Lengths.{length-bytes, bytes-append}
 use Rattle.words.specs.Bytes.{withWord}
 
--- ---- bytes
+-- ---- bytes, or other elements
 
--- two runs of stores are one
-sets-append : (l : List ℕ) (i : ℕ) (us vs : List ℕ) → sets l i (us ++ vs) ≡ sets (sets l i us) (i + length us) vs
-sets-append l i [] vs = ap (λ (k : ℕ). sets l k vs) (sym (add-zero i))
-sets-append l i (u ∷ us) vs =
-    let e : suc i + length us ≡ i + suc (length us) = omega arith in
-    sets-append (set l i u) (suc i) us vs ∙ ap (λ (k : ℕ). sets (sets (set l i u) (suc i) us) k vs) e
+module _ {A : Type 0} where
+  -- two runs of stores are one
+  sets-append : (l : List A) (i : ℕ) (us vs : List A) → sets l i (us ++ vs) ≡ sets (sets l i us) (i + length us) vs
+  sets-append l i [] vs = ap (λ (k : ℕ). sets l k vs) (sym (add-zero i))
+  sets-append l i (u ∷ us) vs =
+      let e : suc i + length us ≡ i + suc (length us) = omega arith in
+      sets-append (set l i u) (suc i) us vs ∙ ap (λ (k : ℕ). sets (sets (set l i u) (suc i) us) k vs) e
 
--- the buffer l is l₀ with the bytes bs stored from the place `at` on
-pub record Stored (l₀ : List ℕ) (at : ℕ) (bs l : List ℕ) : Type 0 where
-  pub is : l ≡ sets l₀ at bs
+  -- the buffer l is l₀ with the bytes bs stored from the place `at` on
+  pub record Stored (l₀ : List A) (at : ℕ) (bs l : List A) : Type 0 where
+    pub is : l ≡ sets l₀ at bs
 
--- nothing is stored
-pub stored-none : (l : List ℕ) (at : ℕ) → Stored l at [] l
-stored-none l at = record { is = refl }
+  -- nothing is stored
+  pub stored-none : (l : List A) (at : ℕ) → Stored l at [] l
+  stored-none l at = record { is = refl }
 
--- what is stored behind other bytes is stored with them
-pub behind : {l₀ l l′ bs cs : List ℕ} {at to : ℕ} → to ≡ at + length bs → Stored l₀ at bs l → Stored l to cs l′ → Stored l₀ at (bs ++ cs) l′
-behind {l₀} {l} {l′} {bs} {cs} {at} p h e = record { is = rw (e .is, h .is, p) (sym (sets-append l₀ at bs cs)) }
+  -- what is stored behind other bytes is stored with them
+  pub behind : {l₀ l l′ bs cs : List A} {at to : ℕ} → to ≡ at + length bs → Stored l₀ at bs l → Stored l to cs l′ → Stored l₀ at (bs ++ cs) l′
+  behind {l₀} {l} {l′} {bs} {cs} {at} p h e = record { is = rw (e .is, h .is, p) (sym (sets-append l₀ at bs cs)) }
 
--- the buffer keeps its length
-pub length-stored : {l₀ bs l : List ℕ} {at : ℕ} → Stored l₀ at bs l → length l ≡ length l₀
-length-stored {l₀} {bs} {at = at} h = ap length (h .is) ∙ length-sets l₀ at bs
+  -- the buffer keeps its length
+  pub length-stored : {l₀ bs l : List A} {at : ℕ} → Stored l₀ at bs l → length l ≡ length l₀
+  length-stored {l₀} {bs} {at = at} h = ap length (h .is) ∙ length-sets l₀ at bs
 
--- FROM THE START: the buffer holds the bytes, and behind them what it held
-pub stored-filled : {l bs l′ : List ℕ} → length bs ≤ length l → Stored l 0 bs l′ → l′ ≡ filled l (good bs)
-stored-filled {l} {bs} h e =
-    e .is ∙ sets-eq bs l 0 (rw (zero-add (length bs)) h) ∙ ap (λ (n : ℕ). bs ++ drop n l) (zero-add (length bs))
+  -- FROM THE START: the buffer holds the bytes, and behind them what it held
+  pub stored-filled : {l bs l′ : List A} → length bs ≤ length l → Stored l 0 bs l′ → l′ ≡ filled l (good bs)
+  stored-filled {l} {bs} h e =
+      e .is ∙ sets-eq bs l 0 (rw (zero-add (length bs)) h) ∙ ap (λ (n : ℕ). bs ++ drop n l) (zero-add (length bs))
 
 -- ---- numbers, two bytes each
 

@@ -2,7 +2,8 @@
 use mathlib.Core.Path.{refl}
 use borrow.Author.Needs.{needs}
 use Rattle.panel_asked.specs.Questions.{endsAsked, ends-found}
-use Rattle.panel_doors.specs.Asked.{came-read, of-order}
+use Rattle.panel_asked.specs.Read.{came-read}
+use Rattle.panel_doors.specs.Asked.{of-order}
 use Rattle.panel_doors.proofs.ends.Statement.{statement}
 use Rattle.panel_doors.proofs.ends.Tie as tie
 

@@ -1,7 +1,8 @@
 -- `move_of` meets its contract.
 use mathlib.Core.Path.{refl}
 use borrow.Author.Needs.{needs}
-use Rattle.panel_doors.specs.Asked.{came-read, of-order}
+use Rattle.panel_asked.specs.Read.{came-read}
+use Rattle.panel_doors.specs.Asked.{of-order}
 use Rattle.panel_doors.proofs.move_of.Statement.{statement}
 use Rattle.panel_doors.proofs.move_of.Tie as tie
 

@@ -1,0 +1,2 @@
+pub mod Grooves
+pub mod Grid

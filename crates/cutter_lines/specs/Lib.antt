@@ -1,0 +1,3 @@
+pub mod Grooves
+pub mod Sizes
+pub mod Laws
