@@ -8,7 +8,7 @@ ghost use Prim.Native.Nat.{_≤_};
 ghost use lib.ListN.{length};
 
 // "It judges the first 32,768 bytes of its input as the whole file."
-const ORDER_INPUT: usize = 32768;
+pub const ORDER_INPUT: usize = 32768;
 
 // Room for every drawing file and more.
 const DRAWING_INPUT: usize = 65536;
@@ -20,14 +20,14 @@ pub enum Outcome {
     NotRead,
 }
 
-// How many bytes stand at the start of a buffer, and whether a read failed behind them.
-struct Input {
-    bytes: usize,
-    failed: bool,
+// How many bytes stand at the start of a buffer, and whether a read failed behind them. This and what makes it are for `files_moves` too.
+pub struct Input {
+    pub bytes: usize,
+    pub failed: bool,
 }
 
 // Reads until the buffer is full, the input ends or a read fails.
-fn read_input(fd: i32, buffer: &mut [u8]) -> Input
+pub fn read_input(fd: i32, buffer: &mut [u8]) -> Input
     ensures { λ r. ⌜ r .bytes ≤ length (now (buffer .exit)) ⌝ }
 {
     let mut bytes = 0;
@@ -52,7 +52,7 @@ fn read_input(fd: i32, buffer: &mut [u8]) -> Input
 }
 
 // Writes the bytes to standard output.
-fn print(bytes: &[u8]) -> Outcome {
+pub fn print(bytes: &[u8]) -> Outcome {
     if io::write_all(STDOUT_FILENO, bytes) {
         Outcome::Written
     } else {

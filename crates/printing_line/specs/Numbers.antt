@@ -5,8 +5,9 @@ use mathlib.Core.Bool.{Bool, true, false}
 use mathlib.Core.List.{List, [], _∷_}
 use native.Mathlib.Nat.{pow-succ', pow-le-pow-right}
 use native.Mathlib.Omega.{arith}
-use lib.Dec.{leb}
-use borrow.Author.Tests.{lt-ltb, leb-true, leb-false}
+use lib.Dec.{ltb, leb}
+use lib.ListN.{length, length-append}
+use borrow.Author.Tests.{lt-ltb, ltb-true, ltb-false, leb-true, leb-false}
 use Rattle.io.specs.Digits.{glyph, Fewest}
 use Rattle.io.specs.Digits.{digits as kitDigits}
 use Rattle.rules.specs.Basics.{snoc}
@@ -46,3 +47,14 @@ few-digits v r h f = go (leb r mostDigits) refl
         let low = f .2 (omega arith) in
         let p = pow-le-pow-right {n = 10} (omega arith) {i = mostDigits} {j = r - 1} (omega arith) in
         absurd (omega (arith, p, low))
+
+-- A number below 10 ^ (k + 1) has at most k + 1 digits.
+pub digits-most : (k v : ℕ) → v < 10 ^ suc k → length (digits v) ≤ suc k
+digits-most zero v h = rw (digits-one v h) (omega arith)
+digits-most (suc k) v h = go (ltb v 10) refl (λ b. digits-most k (v / 10) b)
+  where
+    go : (t : Bool) → ltb v 10 ≡ t → (v / 10 < 10 ^ suc k → length (digits (v / 10)) ≤ suc k) → length (digits v) ≤ suc (suc k)
+    go true e rest = rw (digits-one v (ltb-true v 10 e)) (omega arith)
+    go false e rest =
+        let p = pow-succ' 10 (suc k) in
+        rw (digits-more v (ltb-false v 10 e)) (omega (arith, length-append (digits (v / 10)) (digit (v % 10) ∷ []), rest (omega arith)))

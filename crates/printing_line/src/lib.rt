@@ -1,4 +1,4 @@
-// The line of a refusal, put into a page. For `printing`.
+// Texts, numbers and the line of a refusal, put into a page. For `printing` and `printing_move`: the functions ask for room.
 use rules::Refusal;
 ghost use Prim.Native.Nat.{_+_, _≤_};
 ghost use lib.ListN.{length};
@@ -8,7 +8,7 @@ ghost use Rattle.rules.specs.Output.{refusalLine};
 ghost use Rattle.printing_line.specs.Putting.{Put, Printed, mostDigits, lineRoom};
 
 // Puts a text into the page from `at` on. Returns the place behind it.
-fn put_text(page: &mut [u8], at: usize, text: &[u8]) -> usize
+pub fn put_text(page: &mut [u8], at: usize, text: &[u8]) -> usize
     requires { ⌜ at + length (now text) ≤ length (now page) ⌝ }
     ensures { λ r. ⌜ Put (now (page .entry)) at (now (text .entry)) (now (page .exit)) r ⌝ }
 {
@@ -21,7 +21,7 @@ fn put_text(page: &mut [u8], at: usize, text: &[u8]) -> usize
 }
 
 // Puts the decimal digits of v there, at most 20 of them. Returns the place behind them.
-fn put_decimal(page: &mut [u8], at: usize, v: u64) -> usize
+pub fn put_decimal(page: &mut [u8], at: usize, v: u64) -> usize
     requires { ⌜ at + mostDigits ≤ length (now page) ⌝ }
     ensures exact { λ r. ⌜ Put (now (page .entry)) at (digits v) (now (page .exit)) r ⌝ }
     ensures within { λ r. ⌜ r ≤ at + mostDigits ⌝ }
