@@ -3,6 +3,7 @@
 
     orders.py calls KIND N ROUNDS > FILE     numbers of 16 bits, low byte first: n, the rounds, then each call's count and entries
     orders.py order KIND N > FILE            the order file of document 01
+    orders.py feeders KIND N > FILE          the same at scale 8 with every line a feeder: the longest list of moves
 
 KIND is `short` (each new point covers a run of 2 to 4 boundary points, chosen at random with a fixed seed)
 or `whole` (each run goes over the whole boundary). The last point's run is the whole boundary, as document 01 wants."""
@@ -43,8 +44,10 @@ def main():
             numbers += [len(entries)] + entries
         sys.stdout.buffer.write(struct.pack('<%dH' % len(numbers), *numbers))
     else:
-        out = struct.pack('>2sH', b'HD', n)
-        for entries in [[], [1], [1, 2]] + calls:
+        scale, mark = (struct.pack('>2sH', b'SC', 8), 0x4000) if form == 'feeders' else (b'', 0)
+        out = struct.pack('>2sH', b'HD', n) + scale
+        for points in [[], [1], [1, 2]] + calls:
+            entries = [point | mark for point in points]
             out += struct.pack('>2sH%dH' % len(entries), b'PT', len(entries), *entries)
         sys.stdout.buffer.write(out + b'EN')
 

@@ -2,14 +2,15 @@
    Files, numbers and places are those of document 01 (../shared/01-scope.md). README.md says what to do about each refusal.
    An order file is drawn in one of two styles: `panel_X` draws lines with one bend at most, `panel_straight_X` straight lines.
 
-   Lengths count bytes, or 16-bit words where the pointer is one to words. No pointer may be null, also with length 0.
-   What a function writes to (`out`, `answers`, `at`, `place`, `line`, `refusal`) may not overlap anything else that it is given.
+   Lengths count bytes, or 16-bit words or floats where the pointer is one to these. No pointer may be null, also with length 0.
+   What a function writes to (`out`, `answers`, `kinds`, `at`, `place`, `line`, `refusal`) may not overlap anything else that it
+   is given.
    A call takes no heap and at most 80 KB of stack, the same for every n. Nothing is kept from one call to the next.
 
    Every call fills `refusal`, with zeros if nothing is refused.
-   A refusal leaves `out`, `at`, `place` and `line` as they were. In the functions on lists of calls, 3 and 24 for short
-   answers leave `answers` too; every other refusal comes after the answers were written.
-   Bytes and words past the written ones stay. */
+   A refusal leaves `out`, `kinds`, `at`, `place` and `line` as they were. In the functions on lists of calls, 3 and 24 for
+   short answers leave `answers` too; every other refusal comes after the answers were written.
+   Bytes, words and floats past the written ones stay. */
 #ifndef PANEL_H
 #define PANEL_H
 
@@ -24,6 +25,9 @@
 #define PANEL_LINE_COUNT(n) (3 * (n) - 6)
 #define PANEL_DRAWING_LENGTH(n) (42 * (n) - 60)
 #define PANEL_STRAIGHT_LENGTH(n) (30 * (n) - 36)
+
+/* The most moves of a finished drawing, in either style: every line a feeder that gives five moves twice. */
+#define PANEL_MOST_MOVES(n) (10 * PANEL_LINE_COUNT(n))
 
 /* The bytes of the longest files, and how many bytes of an order file the program `draw` judges as the whole file. */
 #define PANEL_LONGEST_ORDER 10238
@@ -63,9 +67,10 @@ struct panel_refusal {
 #define PANEL_OUTPUT_SHORT 24
 #define PANEL_NO_REACH 25
 
-/* Which buffer was short. */
+/* Which buffer was short: `out` or `kinds`, `answers`, `at`. */
 #define PANEL_SHORT_OUT 1
 #define PANEL_SHORT_ANSWERS 2
+#define PANEL_SHORT_AT 3
 
 /* Kinds of move, 0 for a refusal. */
 #define PANEL_MOVE_TRAVEL 1
@@ -118,10 +123,19 @@ uint64_t panel_undraw(const uint8_t *drawing, size_t drawing_length, uint8_t *ou
 
 /* Cutter move `number`, from 0, of the drawing of an order file: its kind.
    Travel and cut put x and y into `at`, plunge and lift the height and 0, in millimetres.
-   A plain line gives five moves, a feeder the same five twice in succession, a guide none.
+   A plain line gives travel, plunge, cut to the bend, cut to the earlier point and lift, without a cut to the place where the
+   cutter already is: four moves or five. A feeder gives the same twice in succession, a guide none.
    Refused are the order file, then 12 for the tool, 23 if there is no such move. */
 uint64_t panel_move(const uint8_t *order, size_t order_length, float pitch, float depth, float clearance,
                     size_t number, float at[2], struct panel_refusal *refusal);
+
+/* All cutter moves of the drawing of an order file, in their order, which is what `panel_move` gives for 0, 1, 2, ..: how many
+   there are, 0 also if nothing is cut. `kinds[i]` gets the kind of move i, `at[2 * i]` and `at[2 * i + 1]` its two numbers.
+   PANEL_MOST_MOVES(n) kinds and twice as many floats are always enough.
+   Refused are the order file, then 12 for the tool, 24 if `kinds` is too short, then 24 if `at` is. */
+uint64_t panel_moves(const uint8_t *order, size_t order_length, float pitch, float depth, float clearance,
+                     uint8_t *kinds, size_t kinds_length, float *at, size_t at_length,
+                     struct panel_refusal *refusal);
 
 /* Look-ups of the drawing of an order file. Points count from 1, lines from 0.
    `panel_cut_line` gives the number of a cut line, plain or feeder, that ends at the point, one of them if there are more;
@@ -149,6 +163,12 @@ uint64_t panel_calls_move(size_t n, const uint16_t *calls, size_t calls_length, 
                           float pitch, float depth, float clearance, size_t number, float at[2],
                           struct panel_refusal *refusal);
 
+/* All cutter moves, as `panel_moves` gives them. 12 for the tool, 22 while points are missing, 24 if `kinds` is too short,
+   then 24 if `at` is. */
+uint64_t panel_calls_moves(size_t n, const uint16_t *calls, size_t calls_length, uint16_t *answers, size_t answers_length,
+                           float pitch, float depth, float clearance, uint8_t *kinds, size_t kinds_length, float *at,
+                           size_t at_length, struct panel_refusal *refusal);
+
 /* Look-ups, as those of an order file's drawing; points may still be missing. 23 if there is no such point or line. */
 uint64_t panel_calls_point(size_t n, const uint16_t *calls, size_t calls_length, uint16_t *answers, size_t answers_length,
                            size_t point, struct panel_place *place, struct panel_refusal *refusal);
@@ -160,13 +180,17 @@ uint64_t panel_calls_cut_line(size_t n, const uint16_t *calls, size_t calls_leng
 /* Straight drawings: each function below takes, gives and refuses what its namesake above does, but for the following.
    A drawing file begins with 44 53, its lines have no bend, and it has PANEL_STRAIGHT_LENGTH(n) bytes; a panel is
    2n - 4 wide and n - 2 high. `panel_straight_undraw` gives 2 to the mark 44 48, as `panel_undraw` gives 2 to 44 53.
-   A plain line gives four moves, one of them a cut, a feeder the same four twice. Nothing is refused with 25. */
+   A plain line gives four moves, one of them a cut, a feeder the same four twice; none is left out.
+   Nothing is refused with 25. */
 uint64_t panel_straight_draw(const uint8_t *order, size_t order_length, uint8_t *out, size_t out_length,
                              struct panel_refusal *refusal);
 uint64_t panel_straight_undraw(const uint8_t *drawing, size_t drawing_length, uint8_t *out, size_t out_length,
                                struct panel_refusal *refusal);
 uint64_t panel_straight_move(const uint8_t *order, size_t order_length, float pitch, float depth, float clearance,
                              size_t number, float at[2], struct panel_refusal *refusal);
+uint64_t panel_straight_moves(const uint8_t *order, size_t order_length, float pitch, float depth, float clearance,
+                              uint8_t *kinds, size_t kinds_length, float *at, size_t at_length,
+                              struct panel_refusal *refusal);
 uint64_t panel_straight_point(const uint8_t *order, size_t order_length, size_t point, struct panel_place *place,
                               struct panel_refusal *refusal);
 uint64_t panel_straight_line(const uint8_t *order, size_t order_length, size_t number,
@@ -178,6 +202,9 @@ uint64_t panel_straight_calls(size_t n, const uint16_t *calls, size_t calls_leng
 uint64_t panel_straight_calls_move(size_t n, const uint16_t *calls, size_t calls_length, uint16_t *answers,
                                    size_t answers_length, float pitch, float depth, float clearance, size_t number,
                                    float at[2], struct panel_refusal *refusal);
+uint64_t panel_straight_calls_moves(size_t n, const uint16_t *calls, size_t calls_length, uint16_t *answers,
+                                    size_t answers_length, float pitch, float depth, float clearance, uint8_t *kinds,
+                                    size_t kinds_length, float *at, size_t at_length, struct panel_refusal *refusal);
 uint64_t panel_straight_calls_point(size_t n, const uint16_t *calls, size_t calls_length, uint16_t *answers,
                                     size_t answers_length, size_t point, struct panel_place *place,
                                     struct panel_refusal *refusal);

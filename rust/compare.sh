@@ -20,6 +20,7 @@ library=target/staticlib/libpanel_c.a
 options='-Wall -Wextra -Werror -Iinclude'
 cc -std=c99 $options -o target/draw_c examples/draw.c "$library"
 cc -std=c99 $options -o target/look_c examples/look.c "$library"
+cc -std=c99 $options -o target/moves_c examples/moves.c "$library"
 target/draw_c <examples/k4.order | cmp - examples/k4.drawing
 target/draw_c <examples/feeders.order | cmp - examples/feeders.drawing
 target/draw_c straight <examples/feeders.order | cmp - examples/feeders.straight
@@ -29,6 +30,28 @@ target/look_c 4 <examples/k4.order | diff - <(
 target/look_c 3 <examples/feeders.order | diff - <(
     printf '%s\n' 'point 3 at (7,2)' 'line 1: 3 to 1, guide' 'line 2: 3 to 2, feeder' 'line 4: 4 to 3, plain' 'line 7: 5 to 3, guide'
 )
+# All moves: K4's first three lines, the first of which has one cut less, and how many there are.
+target/moves_c 8 8 8 <examples/k4.order | head -n 14 | diff - <(
+    printf '%s\n' 'travel 12 0' 'plunge -1' 'cut 0 0' 'lift 1'
+    printf '%s\n' 'travel 7 2' 'plunge -1' 'cut 4 1' 'cut 0 0' 'lift 1'
+    printf '%s\n' 'travel 7 2' 'plunge -1' 'cut 9 1' 'cut 12 0' 'lift 1'
+)
+target/moves_c 8 8 8 <examples/k4.order | wc -l | diff - <(echo 42)
+target/moves_c 8 8 8 <examples/feeders.order | wc -l | diff - <(echo 50)
+target/moves_c 1 3 5 straight <examples/feeders.order | head -n 4 | diff - <(
+    printf '%s\n' 'travel 0.75 0' 'plunge -0.375' 'cut 0 0' 'lift 0.625'
+)
+target/moves_c 8 8 8 straight <examples/feeders.order | wc -l | diff - <(echo 44)
+target/moves_c 8 41 8 <examples/k4.order | diff - <(echo 'refused 12 at 0')
+# The programs print what the library lists, also of the largest panel with every line a feeder and the largest tool.
+rt check moves moves_straight >/dev/null
+for order in examples/k4.order examples/feeders.order examples/largest.order; do
+    for tool in '80 40 80' '1 1 1' '7 13 41' '8 8 81' '8 8'; do
+        target/moves_c $tool <"$order" | cmp - <(target/bin/moves $tool <"$order")
+    done
+    target/moves_c 80 40 80 straight <"$order" | cmp - <(target/bin/moves_straight 80 40 80 <"$order")
+done
+target/bin/moves 80 40 80 <examples/largest.order | wc -l | diff - <(echo 29728)
 if target/draw_c <examples/k4.order >/dev/full 2>/dev/null; then
     echo "compare.sh: draw_c does not tell a failed write" >&2
     exit 1

@@ -1,12 +1,12 @@
-//! Times draw and undraw of the proved library and of the second implementation on the same files, in
-//! both styles of drawing.
+//! Times draw, undraw and all moves of the proved library and of the second implementation on the same
+//! files, in both styles of drawing.
 
 use std::hint::black_box;
 use std::time::{Duration, Instant};
 
-use panel::straight;
+use panel::{most_moves, straight};
 use second::generate::{order, Random, Runs};
-use second::{drawing_file, order_file, Style, STYLES};
+use second::{drawing_file, moves, order_file, Style, STYLES};
 
 const SIZES: [u16; 3] = [64, 256, 1024];
 const BATCHES: usize = 100;
@@ -17,7 +17,7 @@ fn main() {
     println!("Microseconds a call in {BATCHES} batches of {BATCH:?} or one call each:");
     println!("of the quickest batch, and in brackets of the one in the middle.");
     println!("Both sides and both styles take turns on the same order file, or its drawings,");
-    println!("and write into the same buffer, which is kept from call to call and not cleared.");
+    println!("and write into the same buffers, which are kept from call to call and not cleared.");
     println!("The last column has what the straight style takes for what the other takes.");
     for (runs, name) in [
         (Runs::Short, "random short runs"),
@@ -26,11 +26,16 @@ fn main() {
         let files = SIZES.map(|n| Files::new(n, runs));
         print_table(&format!("draw, {name}"), files.iter().map(Files::draws));
         print_table(&format!("undraw, {name}"), files.iter().map(Files::undraws));
+        print_table(
+            &format!("all moves, {name}"),
+            files.iter().map(Files::moves),
+        );
     }
 }
 
-/// An order file and its two drawing files.
+/// An order file of n points and its two drawing files.
 struct Files {
+    n: u16,
     order: Vec<u8>,
     one_bend: Vec<u8>,
     straight: Vec<u8>,
@@ -45,6 +50,7 @@ impl Files {
             drawing_file::write(&drawing).expect("a finished drawing")
         });
         Files {
+            n,
             order,
             one_bend,
             straight,
@@ -54,31 +60,85 @@ impl Files {
     /// The times of drawing the order file.
     fn draws(&self) -> Times {
         let order = &self.order;
-        let calls: [&dyn Call; 4] = [
+        let calls: [&dyn Call<Vec<u8>>; 4] = [
             &|out| panel::draw_into(black_box(order), out).ok(),
             &|out| straight::draw_into(black_box(order), out).ok(),
             &|out| second::draw(Style::OneBend, black_box(order), out).ok(),
             &|out| second::draw(Style::Straight, black_box(order), out).ok(),
         ];
-        times(calls, [&self.one_bend, &self.straight])
+        times(calls, vec![0; panel::LONGEST_DRAWING])
     }
 
     /// The times of reading the drawing files back.
     fn undraws(&self) -> Times {
         let [bent, unbent] = [&self.one_bend, &self.straight];
-        let calls: [&dyn Call; 4] = [
+        let calls: [&dyn Call<Vec<u8>>; 4] = [
             &|out| panel::undraw_into(black_box(bent), out).ok(),
             &|out| straight::undraw_into(black_box(unbent), out).ok(),
             &|out| second::undraw(Style::OneBend, black_box(bent), out).ok(),
             &|out| second::undraw(Style::Straight, black_box(unbent), out).ok(),
         ];
-        times(calls, [&self.order, &self.order])
+        times(calls, vec![0; panel::LONGEST_ORDER])
+    }
+
+    /// The times of all moves of the order file.
+    fn moves(&self) -> Times {
+        let order = &self.order;
+        let calls: [&dyn Call<Moves>; 4] = [
+            &|out| panel::moves_into(black_box(order), TOOL, &mut out.kinds, &mut out.at).ok(),
+            &|out| straight::moves_into(black_box(order), TOOL, &mut out.kinds, &mut out.at).ok(),
+            &|out| second_moves(Style::OneBend, black_box(order), out),
+            &|out| second_moves(Style::Straight, black_box(order), out),
+        ];
+        let most = most_moves(self.n.into());
+        let out = Moves {
+            kinds: vec![0; most],
+            at: vec![0.0; 2 * most],
+        };
+        times(calls, out)
     }
 }
 
-/// A call that writes into a buffer and gives the number of bytes.
-trait Call: Fn(&mut [u8]) -> Option<usize> {}
-impl<F: Fn(&mut [u8]) -> Option<usize>> Call for F {}
+/// The tool of all moves.
+const TOOL: panel::Tool = panel::Tool {
+    pitch: 8.0,
+    depth: 4.0,
+    clearance: 8.0,
+};
+
+/// All moves: their kinds, and two numbers of each.
+#[derive(Clone, PartialEq)]
+struct Moves {
+    kinds: Vec<u8>,
+    at: Vec<f32>,
+}
+
+/// Writes all moves of an order file by the second implementation, and gives how many.
+fn second_moves(style: Style, order: &[u8], out: &mut Moves) -> Option<usize> {
+    let tool = moves::Tool {
+        pitch: TOOL.pitch,
+        depth: TOOL.depth,
+        clearance: TOOL.clearance,
+    };
+    let drawing = order_file::read(style, order).ok()?;
+    let list = moves::all_moves(&drawing, tool).ok()?;
+    let places = out.kinds.iter_mut().zip(out.at.chunks_exact_mut(2));
+    for (given, (kind, at)) in list.iter().zip(places) {
+        let (number, xy) = match *given {
+            moves::Move::Travel(x, y) => (1, [x, y]),
+            moves::Move::Plunge(z) => (2, [z, 0.0]),
+            moves::Move::Cut(x, y) => (3, [x, y]),
+            moves::Move::Lift(z) => (4, [z, 0.0]),
+        };
+        *kind = number;
+        at.copy_from_slice(&xy);
+    }
+    Some(list.len())
+}
+
+/// A call that writes into an output and gives the number of bytes or moves.
+trait Call<Out>: Fn(&mut Out) -> Option<usize> {}
+impl<Out, F: Fn(&mut Out) -> Option<usize>> Call<Out> for F {}
 
 /// Microseconds of a call.
 #[derive(Clone, Copy)]
@@ -90,14 +150,14 @@ struct Time {
 /// The times of both styles by the proved library, then by the second implementation.
 type Times = [[Time; 2]; 2];
 
-/// The times of four calls in that order, which must give the output of their style.
-fn times(calls: [&dyn Call; 4], outputs: [&[u8]; 2]) -> Times {
-    let longest = outputs.map(<[u8]>::len).into_iter().max();
-    let mut out = vec![0; longest.unwrap_or(0)];
-    for (call, output) in calls.iter().zip(outputs.iter().cycle()) {
-        assert_eq!(call(&mut out), Some(output.len()));
-        assert_eq!(out[..output.len()], **output);
-    }
+/// The times of four calls in that order; in a style both sides must write the same.
+fn times<Out: Clone + PartialEq>(calls: [&dyn Call<Out>; 4], mut out: Out) -> Times {
+    let [one, two, three, four] = calls.map(|call| {
+        let mut out = out.clone();
+        let written = call(&mut out).expect("a file that is accepted");
+        (written, out)
+    });
+    assert!(one == three && two == four, "the two sides differ");
     let mut batches = [(); 4].map(|()| Vec::new());
     for _ in 0..BATCHES {
         for (times, call) in batches.iter_mut().zip(calls) {
@@ -115,7 +175,7 @@ fn times(calls: [&dyn Call; 4], outputs: [&[u8]; 2]) -> Times {
 }
 
 /// Microseconds of one call, by the mean of a batch.
-fn batch(call: &dyn Call, out: &mut [u8]) -> f64 {
+fn batch<Out>(call: &dyn Call<Out>, out: &mut Out) -> f64 {
     let started = Instant::now();
     let mut calls = 0;
     while calls == 0 || started.elapsed() < BATCH {

@@ -8,7 +8,8 @@
 //! byte of an output, and bytes past the written ones stay. Functions whose names begin with `calls`
 //! take a list of adding calls where the others take an order file.
 //!
-//! A line is a guide, plain or a feeder, as its entry says: a guide isn't cut, a feeder is cut twice.
+//! A line is a guide, plain or a feeder, as its entry says: a guide isn't cut, a feeder is cut twice. No
+//! cut goes to the place where the cutter already is: it is left out, as wish 3 of document 02 says.
 //!
 //! ```
 //! use panel::{draw, line, moves, point, undraw, Bend, Move, Place, Refusal, Tool};
@@ -46,11 +47,11 @@
 //!
 //! // A grid unit of one millimetre, half a millimetre deep, one above the panel between lines.
 //! let tool = Tool { pitch: 8.0, depth: 4.0, clearance: 8.0 };
-//! let moves: Vec<Move> = moves(&order, tool)?.collect();
-//! assert_eq!(moves.len(), 15);
-//! assert_eq!(moves[5], Move::Travel(3.0, 2.0));
-//! assert_eq!(moves[6], Move::Plunge(-0.5));
-//! assert_eq!(moves[7], Move::Cut(2.0, 1.0));
+//! let moves = moves(&order, tool)?;
+//! assert_eq!(moves.len(), 14);
+//! assert_eq!(moves[4], Move::Travel(3.0, 2.0));
+//! assert_eq!(moves[5], Move::Plunge(-0.5));
+//! assert_eq!(moves[6], Move::Cut(2.0, 1.0));
 //! # Ok::<(), Refusal>(())
 //! ```
 
@@ -68,9 +69,9 @@ pub use files::{draw, draw_into, undraw, undraw_into};
 pub use lookups::{
     calls_cut_line, calls_line, calls_point, cut_line, line, point, Bend, Kind, Line, Place,
 };
-pub use moves::{calls_move_at, move_at, moves, Move, Moves, Tool};
+pub use moves::{calls_move_at, calls_moves, move_at, moves, moves_into, Move, Tool};
 pub use refusal::Refusal;
 pub use sizes::{
-    drawing_length, line_count, ANSWER_WORDS, FEWEST_POINTS, LONGEST_DRAWING, LONGEST_ORDER,
-    MOST_POINTS,
+    drawing_length, line_count, most_moves, ANSWER_WORDS, FEWEST_POINTS, LONGEST_DRAWING,
+    LONGEST_ORDER, MOST_POINTS,
 };

@@ -7,11 +7,14 @@
 /// The three words of a refusal.
 pub type Words = [u64; 3];
 
-/// The third word where the output was short.
+/// The third word where the output was short; of all moves, the kinds.
 pub const SHORT_OUT: u64 = 1;
 
 /// The third word where the answers were short.
 pub const SHORT_ANSWERS: u64 = 2;
+
+/// The third word where the numbers of all moves were short, and the kinds were not.
+pub const SHORT_AT: u64 = 3;
 
 /// What a look-up returns if it finds what was asked.
 pub const FOUND: u64 = 1;
@@ -59,6 +62,37 @@ pub type CallsMove = unsafe extern "C" fn(
     *mut Words,
 ) -> u64;
 
+/// All moves of an order file's drawing.
+pub type OrderMoves = unsafe extern "C" fn(
+    *const u8,
+    usize,
+    f32,
+    f32,
+    f32,
+    *mut u8,
+    usize,
+    *mut f32,
+    usize,
+    *mut Words,
+) -> u64;
+
+/// All moves of the drawing that a list of calls leaves.
+pub type CallsMoves = unsafe extern "C" fn(
+    usize,
+    *const u16,
+    usize,
+    *mut u16,
+    usize,
+    f32,
+    f32,
+    f32,
+    *mut u8,
+    usize,
+    *mut f32,
+    usize,
+    *mut Words,
+) -> u64;
+
 /// A look-up in an order file's drawing, which puts so many words into `seen`.
 pub type OrderLookUp<const WORDS: usize> =
     unsafe extern "C" fn(*const u8, usize, usize, *mut [u64; WORDS], *mut Words) -> u64;
@@ -82,6 +116,8 @@ pub struct Functions<const LINE: usize> {
     pub calls: RunCalls,
     pub order_move: OrderMove,
     pub calls_move: CallsMove,
+    pub order_moves: OrderMoves,
+    pub calls_moves: CallsMoves,
     pub point: OrderLookUp<2>,
     pub line: OrderLookUp<LINE>,
     pub cut_line: OrderLookUp<1>,
@@ -97,6 +133,8 @@ pub static ONE_BEND: Functions<LINE_WORDS> = Functions {
     calls: panel_calls,
     order_move: panel_move,
     calls_move: panel_calls_move,
+    order_moves: panel_moves,
+    calls_moves: panel_calls_moves,
     point: panel_point,
     line: panel_line,
     cut_line: panel_cut_line,
@@ -112,6 +150,8 @@ pub static STRAIGHT: Functions<STRAIGHT_LINE_WORDS> = Functions {
     calls: panel_straight_calls,
     order_move: panel_straight_move,
     calls_move: panel_straight_calls_move,
+    order_moves: panel_straight_moves,
+    calls_moves: panel_straight_calls_moves,
     point: panel_straight_point,
     line: panel_straight_line,
     cut_line: panel_straight_cut_line,
@@ -172,7 +212,7 @@ declare! {
 
     /// A move of the drawing of an order file: 1 travel, 2 plunge, 3 cut, 4 lift, or 0 and a
     /// refusal, which leaves `at`. Travel and cut put x and y there, plunge and lift z and 0. A plain
-    /// line gives five moves, in a straight drawing four, a feeder the same twice in succession.
+    /// line gives four moves or five, in a straight drawing four, a feeder the same twice in succession.
     fn panel_move, panel_straight_move(
         order: *const u8,
         order_len: usize,
@@ -197,6 +237,40 @@ declare! {
         clearance: f32,
         number: usize,
         at: *mut [f32; 2],
+        refusal: *mut Words,
+    );
+
+    /// All moves of the drawing of an order file, in their order: how many, with the kind of each in
+    /// `kinds` and its two numbers in `at`, as [`panel_move`] gives them; or 0 and a refusal, which
+    /// leaves both. Short `kinds` ([`SHORT_OUT`]) are told before short `at` ([`SHORT_AT`]).
+    fn panel_moves, panel_straight_moves(
+        order: *const u8,
+        order_len: usize,
+        pitch: f32,
+        depth: f32,
+        clearance: f32,
+        kinds: *mut u8,
+        kinds_len: usize,
+        at: *mut f32,
+        at_len: usize,
+        refusal: *mut Words,
+    );
+
+    /// The same of the drawing that a list of calls leaves, with calls and answers as in
+    /// [`panel_calls`].
+    fn panel_calls_moves, panel_straight_calls_moves(
+        n: usize,
+        calls: *const u16,
+        calls_len: usize,
+        answers: *mut u16,
+        answers_len: usize,
+        pitch: f32,
+        depth: f32,
+        clearance: f32,
+        kinds: *mut u8,
+        kinds_len: usize,
+        at: *mut f32,
+        at_len: usize,
         refusal: *mut Words,
     );
 

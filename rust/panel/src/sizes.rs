@@ -1,4 +1,4 @@
-//! Sizes of drawings, files and answers.
+//! Sizes of drawings, files, answers and lists of moves.
 
 /// Document 01: "n from 3 to 1,024".
 pub const FEWEST_POINTS: usize = 3;
@@ -31,4 +31,15 @@ pub const fn drawing_length(n: usize) -> usize {
 /// ```
 pub const fn line_count(n: usize) -> usize {
     3 * n - 6
+}
+
+/// The most moves of a finished drawing of n points, n from 3 to 1,024, in either style: every line a
+/// feeder that gives its five moves twice. All moves of a drawing fit so many kinds, and twice as many
+/// numbers.
+///
+/// ```
+/// assert_eq!(panel::most_moves(5), 90);
+/// ```
+pub const fn most_moves(n: usize) -> usize {
+    10 * line_count(n)
 }

@@ -3,8 +3,8 @@
 //!
 //! A function here takes, gives and refuses what the crate's function of the same name does, but draws
 //! and reads straight drawings, in which no line has a bend and nothing is refused with 25. A finished
-//! panel of n points is 2n - 4 wide and n - 2 high. A plain line gives four moves, one of them a cut. Each
-//! style's `undraw` refuses the other's drawing files with 2 at place 0.
+//! panel of n points is 2n - 4 wide and n - 2 high. A plain line gives four moves, one of them a cut, and
+//! none is left out. Each style's `undraw` refuses the other's drawing files with 2 at place 0.
 //!
 //! ```
 //! use panel::straight::{draw, line, moves, point, undraw, Line};
@@ -36,7 +36,7 @@
 //!
 //! // Four moves a line, and a feeder's twice.
 //! let tool = Tool { pitch: 8.0, depth: 4.0, clearance: 8.0 };
-//! let moves: Vec<Move> = moves(order, tool)?.collect();
+//! let moves = moves(order, tool)?;
 //! assert_eq!(moves.len(), 16);
 //! assert_eq!(moves[12], Move::Travel(1.0, 1.0));
 //! assert_eq!(moves[14], Move::Cut(2.0, 0.0));
@@ -46,7 +46,9 @@
 use crate::calls::{run, run_in_words, Called};
 use crate::files::{convert, converted};
 use crate::lookups::{cut_line_seen, kind_seen, of_calls, of_order, place_seen, Kind, Place, Seen};
-use crate::moves::{move_of_calls, move_of_order, moves_of_order, Move, Moves, Tool};
+use crate::moves::{
+    move_of_calls, move_of_order, moves_of_calls, moves_of_order, write_moves, Move, Tool,
+};
 use crate::raw::{STRAIGHT, STRAIGHT_LINE_WORDS};
 use crate::refusal::Refusal;
 use crate::sizes::{LONGEST_ORDER, MOST_POINTS};
@@ -198,8 +200,40 @@ pub fn calls_move_at(
 }
 
 /// All moves, as [`panel::moves`](crate::moves).
-pub fn moves(order: &[u8], tool: Tool) -> Result<Moves<'_>, Refusal> {
-    moves_of_order(STRAIGHT.order_move, order, tool)
+pub fn moves(order: &[u8], tool: Tool) -> Result<Vec<Move>, Refusal> {
+    moves_of_order(STRAIGHT.order_moves, order, tool)
+}
+
+/// Writes all moves into two outputs, as [`panel::moves_into`](crate::moves_into).
+///
+/// ```
+/// use panel::{most_moves, straight, Tool};
+///
+/// let order = b"HD\0\x03PT\0\0PT\0\x01\0\x01PT\0\x02\0\x01\0\x02EN";
+/// let tool = Tool { pitch: 8.0, depth: 4.0, clearance: 8.0 };
+/// let (mut kinds, mut at) = ([0; most_moves(3)], [0.0; 2 * most_moves(3)]);
+/// let count = straight::moves_into(order, tool, &mut kinds, &mut at)?;
+/// assert_eq!(kinds[..count], [1, 2, 3, 4, 1, 2, 3, 4, 1, 2, 3, 4]);
+/// assert_eq!(at[..8], [2.0, 0.0, -0.5, 0.0, 0.0, 0.0, 1.0, 0.0]);
+/// # Ok::<(), panel::Refusal>(())
+/// ```
+pub fn moves_into(
+    order: &[u8],
+    tool: Tool,
+    kinds: &mut [u8],
+    at: &mut [f32],
+) -> Result<usize, Refusal> {
+    write_moves(STRAIGHT.order_moves, order, tool, kinds, at)
+}
+
+/// All moves after a list of calls, as [`panel::calls_moves`](crate::calls_moves).
+pub fn calls_moves(
+    n: usize,
+    calls: &[u16],
+    answers: &mut [u16],
+    tool: Tool,
+) -> Result<Vec<Move>, Refusal> {
+    moves_of_calls(STRAIGHT.calls_moves, n, calls, answers, tool)
 }
 
 /// The line in `seen`.

@@ -1,5 +1,5 @@
-//! A second implementation of document 01, "One-bend panel drawings", with wishes 1 and 2 of document
-//! 02, "Double grooves for feeders" and "Straight panels".
+//! A second implementation of document 01, "One-bend panel drawings", with wishes 1 to 3 of document 02,
+//! "Double grooves for feeders", "Straight panels" and "The cutter dwells".
 
 pub mod drawing;
 pub mod drawing_file;

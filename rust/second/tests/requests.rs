@@ -4,7 +4,7 @@ mod worked;
 
 use std::iter::Peekable;
 
-use second::moves::{move_at, move_count, Move, Tool};
+use second::moves::{all_moves, move_at, move_count, Move, Tool};
 use second::{drawing_file, open, order_file, Bend, Drawing, Kind, Refusal, Style};
 use worked::{cases, check_file, from_hex, text_of, Case};
 
@@ -77,13 +77,35 @@ fn drawing_told(drawing: &Drawing, room: usize) -> Result<String, Refusal> {
 }
 
 /// The words of the file for a move.
-fn move_told(drawing: &Drawing, tool: Tool, number: usize) -> Result<String, Refusal> {
-    Ok(match move_at(drawing, tool, number)? {
+fn step_told(step: Move) -> String {
+    match step {
         Move::Travel(x, y) => format!("travel {x} {y}"),
         Move::Plunge(z) => format!("plunge {z}"),
         Move::Cut(x, y) => format!("cut {x} {y}"),
         Move::Lift(z) => format!("lift {z}"),
-    })
+    }
+}
+
+/// The same by its number.
+fn move_told(drawing: &Drawing, tool: Tool, number: usize) -> Result<String, Refusal> {
+    Ok(step_told(move_at(drawing, tool, number)?))
+}
+
+/// The words of the file for how many moves each line gives, by a drawing in which all others are
+/// guides, and how many there are together.
+fn counts_told(drawing: &Drawing) -> Result<String, Refusal> {
+    let count_alone = |number| {
+        let mut alone = drawing.clone();
+        for (line, other) in alone.lines.iter_mut().enumerate() {
+            if line != number {
+                other.kind = Kind::Guide;
+            }
+        }
+        Ok(move_count(&alone)?.to_string())
+    };
+    let each: Result<Vec<String>, Refusal> = (0..drawing.lines.len()).map(count_alone).collect();
+    let together = move_count(drawing)?;
+    Ok(format!("{}, together {together}", each?.join(" ")))
 }
 
 /// The answer to a call or a look-up, in the words of the file.
@@ -97,6 +119,7 @@ fn told(drawing: &mut Drawing, asked: &str) -> String {
         ["place", "of", point] => place_told(drawing, point.parse().unwrap()),
         ["drawing", "room", room] => drawing_told(drawing, number(room)),
         ["move", step, "tool", words @ ..] => move_told(drawing, tool(words), number(step)),
+        ["number", "of", "moves", "of", "each", "line"] => counts_told(drawing),
         _ => panic!("unknown call: {asked}"),
     };
     told.unwrap_or_else(|refusal| refusal.to_string())
@@ -117,11 +140,13 @@ fn tool(words: &[&str]) -> Tool {
 
 /// All moves with their numbers, in the words of the file; after the last comes 23.
 fn moves_told(drawing: &Drawing, tool: Tool) -> String {
-    let count = move_count(drawing).unwrap();
-    assert_eq!(move_at(drawing, tool, count), Err(Refusal::new(23, 0)));
-    let told = (0..count).map(|number| {
-        let told = move_told(drawing, tool, number).unwrap();
-        format!("{number} {told}")
+    let moves = all_moves(drawing, tool).unwrap();
+    assert_eq!(move_count(drawing), Ok(moves.len()));
+    let end = move_at(drawing, tool, moves.len());
+    assert_eq!(end, Err(Refusal::new(23, 0)));
+    let told = moves.into_iter().enumerate().map(|(number, step)| {
+        assert_eq!(move_at(drawing, tool, number), Ok(step));
+        format!("{number} {}", step_told(step))
     });
     told.collect::<Vec<String>>().join("; ")
 }
@@ -217,4 +242,10 @@ fn every_case_of_request_1() {
 #[test]
 fn every_case_of_request_2() {
     assert_eq!(run_section(2), [17, 2, 29]);
+}
+
+// "Request 3: no move to where the cutter is"
+#[test]
+fn every_case_of_request_3() {
+    assert_eq!(run_section(3), [0, 10, 25]);
 }

@@ -27,7 +27,7 @@ pub fn words(refusal: Refusal, buffer: u64) -> Words {
 
 /// The words of a refusal of a list of calls, or of what is asked after it with no output: only the
 /// answers can be short.
-fn list_words(refusal: Refusal) -> Words {
+pub fn list_words(refusal: Refusal) -> Words {
     let short = refusal.number == 24;
     words(refusal, if short { SHORT_ANSWERS } else { 0 })
 }

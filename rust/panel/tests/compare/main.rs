@@ -4,9 +4,11 @@
 //! PANEL_ROUNDS (1 if it isn't set) multiplies the number of random cases: `PANEL_ROUNDS=20 cargo test
 //! --release -p panel`. A case that differs is made as small as can be before it is printed.
 
+mod all_moves;
 mod as_c;
 mod both;
 mod calls;
+mod calls_all_moves;
 mod calls_lookups;
 mod calls_move;
 mod damage;

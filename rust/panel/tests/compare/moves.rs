@@ -26,33 +26,69 @@ pub fn bits(given: Move) -> Bits {
     (kind, at.map(f32::to_bits))
 }
 
-/// A move of the second implementation.
-pub fn second_move(drawing: &Drawing, tool: Tool, number: usize) -> Result<Bits, Refusal> {
-    let tool = moves::Tool {
+/// The tool for the second implementation.
+fn second_tool(tool: Tool) -> moves::Tool {
+    moves::Tool {
         pitch: tool.pitch,
         depth: tool.depth,
         clearance: tool.clearance,
-    };
-    let given = moves::move_at(drawing, tool, number).map_err(refusal)?;
-    Ok(bits(match given {
+    }
+}
+
+/// The bits of a move of the second implementation.
+fn second_bits(given: moves::Move) -> Bits {
+    bits(match given {
         moves::Move::Travel(x, y) => Move::Travel(x, y),
         moves::Move::Plunge(z) => Move::Plunge(z),
         moves::Move::Cut(x, y) => Move::Cut(x, y),
         moves::Move::Lift(z) => Move::Lift(z),
-    }))
+    })
 }
 
-/// Both sides give the same move of the order file, whose drawing is given too.
-fn same_move(bytes: &[u8], drawing: &Drawing, tool: Tool, number: usize) -> Kept {
-    let style = drawing.style;
+/// A move of the second implementation.
+pub fn second_move(drawing: &Drawing, tool: Tool, number: usize) -> Result<Bits, Refusal> {
+    let given = moves::move_at(drawing, second_tool(tool), number);
+    given.map(second_bits).map_err(refusal)
+}
+
+/// All moves of the second implementation.
+pub fn second_moves(drawing: &Drawing, tool: Tool) -> Result<Vec<Bits>, Refusal> {
+    let given = moves::all_moves(drawing, second_tool(tool)).map_err(refusal)?;
+    Ok(given.into_iter().map(second_bits).collect())
+}
+
+/// All moves of an order file by the proved library, in one call.
+pub fn proved_moves(style: Style, bytes: &[u8], tool: Tool) -> Result<Vec<Bits>, Refusal> {
+    let given = (proved(style).moves)(bytes, tool)?;
+    Ok(given.into_iter().map(bits).collect())
+}
+
+/// "23 no such point, line or move"
+const NO_SUCH: Refusal = Refusal {
+    number: 23,
+    place: 0,
+};
+
+/// The proved library's move of the order file is the second implementation's.
+fn same_as(
+    second: Result<Bits, Refusal>,
+    (style, bytes): (Style, &[u8]),
+    tool: Tool,
+    number: usize,
+) -> Kept {
     let proved = (proved(style).move_at)(bytes, tool, number).map(bits);
-    let second = second_move(drawing, tool, number);
     if proved != second {
         return Err(format!(
             "{style:?}, move {number} with {tool:?}\n  proved: {proved:x?}\n  second: {second:x?}"
         ));
     }
     Ok(())
+}
+
+/// Both sides give the same move of the order file, whose drawing is given too.
+fn same_move(bytes: &[u8], drawing: &Drawing, tool: Tool, number: usize) -> Kept {
+    let second = second_move(drawing, tool, number);
+    same_as(second, (drawing.style, bytes), tool, number)
 }
 
 /// The second implementation's drawing of an accepted order, and how many moves it gives.
@@ -62,13 +98,21 @@ fn second_drawing(style: Style, bytes: &[u8]) -> (Drawing, usize) {
     (drawing, count)
 }
 
-/// Both sides give the same moves of an order, and then 23; one case more.
+/// The proved library gives the second implementation's list of moves of an order, in one call, and by
+/// number until 23; one case more.
 fn same_moves(style: Style, order: &Order, tool: Tool, tally: &mut Tally) {
     order_keeps(order, |order| {
         let bytes = order.bytes();
         let (drawing, count) = second_drawing(style, &bytes);
+        let list = second_moves(&drawing, tool).expect("a tool in range");
+        if proved_moves(style, &bytes, tool).as_ref() != Ok(&list) {
+            return Err(format!("{style:?}, all moves with {tool:?}"));
+        }
         let mut numbers = (0..=count).chain([usize::MAX]);
-        numbers.try_for_each(|number| same_move(&bytes, &drawing, tool, number))
+        numbers.try_for_each(|number| {
+            let second = list.get(number).copied().ok_or(NO_SUCH);
+            same_as(second, (style, &bytes), tool, number)
+        })
     });
     tally.count();
 }
@@ -144,7 +188,7 @@ fn all_moves_of_up_to_100_points() {
     });
 }
 
-// Every move of the largest drawings; the iterator gives as many.
+// Every move of the largest drawings.
 #[test]
 fn all_moves_of_1024_points() {
     let tool = Tool {
@@ -154,37 +198,35 @@ fn all_moves_of_1024_points() {
     };
     in_each_style("moves, all of drawings of 1,024 points", |style, tally| {
         for runs in RUNS {
-            let bytes = order(1024, runs, &mut Random::new(81_000)).bytes();
-            let (drawing, wanted) = second_drawing(style, &bytes);
-            let mut count = 0;
-            for given in (proved(style).moves)(&bytes, tool).unwrap() {
-                assert_eq!(Ok(bits(given)), second_move(&drawing, tool, count));
-                count += 1;
-                tally.count();
-            }
-            assert_eq!(count, wanted);
+            let order = order(1024, runs, &mut Random::new(81_000));
+            same_moves(style, &order, tool, tally);
         }
     });
 }
 
 /// The moves that the proved library gives for an order.
 fn all_moves(style: Style, order: &Order, tool: Tool) -> Vec<Bits> {
-    let bytes = order.bytes();
-    let moves = (proved(style).moves)(&bytes, tool);
-    let moves = moves.expect("an accepted order and a tool in range");
-    moves.map(bits).collect()
+    let moves = proved_moves(style, &order.bytes(), tool);
+    moves.expect("an accepted order and a tool in range")
 }
 
-/// The moves of a line that is cut once: "five moves", and without a bend one cut less.
-fn moves_of_a_line(style: Style) -> usize {
-    match style {
-        Style::OneBend => 5,
-        Style::Straight => 4,
+/// The moves of each time that a line is cut, which begin with a travel.
+fn each_cut(moves: &[Bits]) -> Vec<&[Bits]> {
+    moves.chunk_by(|_, (kind, _)| *kind != 1).collect()
+}
+
+/// "so a plain line gives four moves or five"; a straight line "has one cut move", and so four.
+fn is_a_cut(style: Style, moves: &[Bits]) -> bool {
+    let kinds: Vec<u64> = moves.iter().map(|(kind, _)| *kind).collect();
+    match kinds[..] {
+        [1, 2, 3, 4] => true,
+        [1, 2, 3, 3, 4] => style == Style::OneBend,
+        _ => false,
     }
 }
 
-// "A feeder gives its five moves twice in succession": the whole list with feeders is the list of the
-// same lines all plain, each line's moves as often as it is cut.
+// "a plain line gives four moves or five, a feeder twice as many": the whole list with feeders is the
+// list of the same lines all plain, each line's moves as often as it is cut.
 #[test]
 fn feeders_give_their_moves_twice() {
     in_each_style("moves, all of drawings with feeders", |style, tally| {
@@ -204,16 +246,17 @@ fn moves_as_marked(style: Style, marked: &Order, tool: Tool, tally: &mut Tally) 
     let mut plain = marked.plain();
     plain.s = marked.s;
     let once = all_moves(style, &plain, tool);
-    assert_eq!(once.len(), moves_of_a_line(style) * plain.entries().count());
+    let lines = each_cut(&once);
+    assert_eq!(lines.len(), plain.entries().count());
+    assert!(lines.iter().all(|moves| is_a_cut(style, moves)));
     let all_with = |mark: u16| {
         let mut order = plain.clone();
         order.entries_mut().for_each(|entry| *entry |= mark);
         order
     };
     for order in [marked.clone(), all_with(FEEDER), all_with(GUIDE)] {
-        let lines = once.chunks(moves_of_a_line(style));
         let mut expected = Vec::new();
-        for (line, &entry) in lines.zip(order.entries()) {
+        for (line, &entry) in lines.iter().zip(order.entries()) {
             let times = match entry & (GUIDE | FEEDER) {
                 0 => 1,
                 FEEDER => 2,
@@ -276,7 +319,7 @@ fn tools_from_all_corners() {
     });
 }
 
-// Refusals of the file come before 12, 12 before 23; the iterator is refused likewise.
+// Refusals of the file come before 12, 12 before 23.
 #[test]
 fn refusals_in_order() {
     in_each_style("moves, refusals in their order", |style, tally| {
@@ -288,27 +331,17 @@ fn refusals_in_order() {
                 wrong[at] ^= change;
                 for pitch in [8.0, 0.0] {
                     let tool = with(random_tool(&mut random), 0, pitch);
-                    refused_alike(style, &wrong, tool);
-                    tally.count();
+                    for number in [0, usize::MAX] {
+                        let second = order_file::read(style, &wrong)
+                            .map_err(refusal)
+                            .and_then(|drawing| second_move(&drawing, tool, number));
+                        keeps(same_as(second, (style, &wrong), tool, number));
+                        tally.count();
+                    }
                 }
             }
         }
     });
-}
-
-/// Both sides give the same first move, or refuse alike; the iterator begins or is refused likewise.
-fn refused_alike(style: Style, bytes: &[u8], tool: Tool) {
-    let first = (proved(style).move_at)(bytes, tool, 0).map(bits);
-    let second = order_file::read(style, bytes)
-        .map_err(refusal)
-        .and_then(|drawing| second_move(&drawing, tool, 0));
-    assert_eq!(first, second);
-    let begun = (proved(style).moves)(bytes, tool).map(|moves| moves.take(1).count());
-    match second {
-        Ok(_) => assert_eq!(begun, Ok(1)),
-        Err(refusal) if refusal.number == 23 => assert_eq!(begun, Ok(0)),
-        Err(refusal) => assert_eq!(begun, Err(refusal)),
-    }
 }
 
 // As C sees it: a refusal leaves `at`, plunge and lift put 0 into its second number.

@@ -1,6 +1,6 @@
 //! The proved library's functions by style.
 
-use panel::{straight, Bend, Called, Kind, Move, Moves, Place, Refusal, Tool};
+use panel::{straight, Bend, Called, Kind, Move, Place, Refusal, Tool};
 use second::Style;
 
 /// A line that a look-up gives, with its bend in a one-bend drawing.
@@ -21,6 +21,12 @@ type OfCalls<Seen> = fn(usize, &[u16], &mut [u16], usize) -> Result<Seen, Refusa
 /// A move of the drawing that a list of calls leaves.
 type MoveOfCalls = fn(usize, &[u16], &mut [u16], Tool, usize) -> Result<Move, Refusal>;
 
+/// All moves of an order file's drawing, written by kinds and numbers.
+type MovesInto = fn(&[u8], Tool, &mut [u8], &mut [f32]) -> Result<usize, Refusal>;
+
+/// All moves of the drawing that a list of calls leaves.
+type MovesOfCalls = fn(usize, &[u16], &mut [u16], Tool) -> Result<Vec<Move>, Refusal>;
+
 /// A drawing file, unless the list or the file is refused.
 type Written = Result<Result<usize, Refusal>, Refusal>;
 
@@ -39,7 +45,9 @@ pub struct Proved {
     pub calls_cut_line: OfCalls<Option<usize>>,
     pub move_at: fn(&[u8], Tool, usize) -> Result<Move, Refusal>,
     pub calls_move_at: MoveOfCalls,
-    pub moves: fn(&[u8], Tool) -> Result<Moves<'_>, Refusal>,
+    pub moves: fn(&[u8], Tool) -> Result<Vec<Move>, Refusal>,
+    pub moves_into: MovesInto,
+    pub calls_moves: MovesOfCalls,
 }
 
 static ONE_BEND: Proved = Proved {
@@ -57,6 +65,8 @@ static ONE_BEND: Proved = Proved {
     move_at: panel::move_at,
     calls_move_at: panel::calls_move_at,
     moves: panel::moves,
+    moves_into: panel::moves_into,
+    calls_moves: panel::calls_moves,
 };
 
 static STRAIGHT: Proved = Proved {
@@ -76,6 +86,8 @@ static STRAIGHT: Proved = Proved {
     move_at: straight::move_at,
     calls_move_at: straight::calls_move_at,
     moves: straight::moves,
+    moves_into: straight::moves_into,
+    calls_moves: straight::calls_moves,
 };
 
 /// The functions of a style.
