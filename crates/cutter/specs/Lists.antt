@@ -9,6 +9,7 @@ use lib.Ieee.{Float}
 use borrow.Author.Tests.{lt-ltb, le-ltb}
 use Rattle.rules.specs.declared.Refusal.{Refusal}
 use Rattle.rules.specs.Refusals.{Result, good, refused, told, _>>=_}
+use Rattle.rules.specs.Results.{never-good}
 use Rattle.rules.specs.Points.{Drawing as Plan, lineAt}
 use Rattle.rules.specs.Output.{counted, filled, roomFor}
 use Rattle.rules.specs.Moves.{Tool as WholeTool, Move as WholeMove, movesOf, allMoves}
@@ -35,17 +36,14 @@ pub record Lists (wanted : Result (List WholeMove)) (kinds : List ℕ) (numbers 
   pub exact : (ms : List WholeMove) → roomFor (length kinds) (length numbers) wanted ≡ good ms → Exactly ms
 
 module _ (kinds : List ℕ) (numbers : List Float) where
-  never : {A : Type 0} {r : Refusal} {p : ℕ} {a : A} → refused r p ≡ good a → ⊥
-  never e = let z : _≡_ {A = ℕ} 0 1 = cc in omega arith
-
   -- nothing was to be written
   pub lists-refused : (r : Refusal) (p : ℕ) → Lists (refused r p) kinds numbers kinds numbers (Listed.Refused r p)
-  lists-refused r p = record { answer = refl; told = refl; kinds-after = refl; numbers-after = refl; exact = λ ms e. absurd (never e) }
+  lists-refused r p = record { answer = refl; told = refl; kinds-after = refl; numbers-after = refl; exact = λ ms e. absurd (never-good e) }
 
   module _ (ms : List WholeMove) where
     -- no room for the kinds
     pub lists-kinds : length kinds < length ms → Lists (good ms) kinds numbers kinds numbers Listed.KindsShort
-    lists-kinds h = let t = lt-ltb (length kinds) (length ms) h in record { answer = rw t; told = rw t; kinds-after = rw t; numbers-after = rw t; exact = λ ns e. absurd (never (rw t at e)) }
+    lists-kinds h = let t = lt-ltb (length kinds) (length ms) h in record { answer = rw t; told = rw t; kinds-after = rw t; numbers-after = rw t; exact = λ ns e. absurd (never-good (rw t at e)) }
 
     module _ (room : length ms ≤ length kinds) where
       -- no room for the numbers
@@ -53,7 +51,7 @@ module _ (kinds : List ℕ) (numbers : List Float) where
       lists-numbers h =
           let s = le-ltb (length kinds) (length ms) room in
           let t = lt-ltb (length numbers) (2 * length ms) h in
-          record { answer = rw (s, t); told = rw (s, t); kinds-after = rw (s, t); numbers-after = rw (s, t); exact = λ ns e. absurd (never (rw (s, t) at e)) }
+          record { answer = rw (s, t); told = rw (s, t); kinds-after = rw (s, t); numbers-after = rw (s, t); exact = λ ns e. absurd (never-good (rw (s, t) at e)) }
 
       -- room for both
       pub lists-all : {kinds′ : List ℕ} {numbers′ : List Float} {r : ℕ} → 2 * length ms ≤ length numbers → Puts kinds numbers 0 ms kinds′ numbers′ r → Lists (good ms) kinds numbers kinds′ numbers′ (Listed.Moves r)

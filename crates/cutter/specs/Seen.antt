@@ -7,10 +7,10 @@ use lib.ListN.{length, getD}
 use lib.Dec.{ltb}
 use borrow.Author.Tests.{lt-ltb, le-ltb}
 use Rattle.rules.specs.declared.Refusal.the-variants.{BadTool, Unfinished, NoSuch}
-use Rattle.rules.specs.Bools.{both, in-range}
 use Rattle.rules.specs.Refusals.{Result, good, Told, gives, refusedWith, told, _>>_, refuseIf}
 use Rattle.rules.specs.Points.{Drawing as Plan, lineAt}
 use Rattle.rules.specs.Moves.{Tool as WholeTool, Move as WholeMove, isTool, lift, movesOf, allMoves, moveAt}
+use Rattle.rules.specs.Dwelling.{has-pitch}
 use Rattle.store_links.specs.declared.Counts.{Counts}
 use Rattle.store_links.specs.Arrays.{Arrays}
 use Rattle.store_laws.specs.Adding.{Holds}
@@ -54,10 +54,6 @@ moveCount q t = do
 pub seen-bad : (q : Plan) (t : Tool) (i : ℕ) → checkedOf t ≡ Bad → MoveSeen (Moved.Refused BadTool 0) (moveAt q (wholeTool t) i)
 seen-bad q t i e = rw (bad-tool q (wholeTool t) i (Laws.bad-tool t e)) (refl, refl)
 
--- a tool of the rules has a pitch
-pub wide : (t : WholeTool) → isTool t ≡ true → 1 ≤ t .pitch
-wide t is = in-range 1 80 (t .pitch) (both _ _ is .0) .0
-
 module _ {q : Plan} {a : Arrays} {c : Counts} (h : Holds q a c) where
   -- a drawing is finished, or not, by the stored numbers
   pub finished : c .n ≤ c .k → q .n ≤ q .k
@@ -85,7 +81,7 @@ module _ {q : Plan} {a : Arrays} {c : Counts} (h : Holds q a c) where
         -- it is one of the line's
         pub seen-within : i - r .before < total g
         seen-within =
-            omega (arith, total-is q (wholeTool t) (r .line) g is (omega (arith, h .stores .s)) (wide (wholeTool t) (good-tool t n ok .0)), f .high bl, f .low)
+            omega (arith, total-is q (wholeTool t) (r .line) g is (omega (arith, h .stores .s)) (has-pitch (wholeTool t) (good-tool t n ok .0)), f .high bl, f .low)
 
         -- the move
         pub seen-made : (m : Move) → IsMove m (grooveMove (i - r .before) (c .s) n g) → MoveSeen (Moved.Made m) (moveAt q (wholeTool t) i)

@@ -1,7 +1,7 @@
 -- What an order file's moves ask of the buffers: there are at most ten a line, and so at most 30,720, and every number of them is below 2 ^ 24.
 use Prim.Native.Nat.{ℕ, _≤_}
 use mathlib.Core.Path.{_≡_, sym, subst}
-use mathlib.Core.Bool.{true, not, _&&_}
+use mathlib.Core.Bool.{true, not}
 use mathlib.Core.List.{List}
 use native.Mathlib.Omega.{arith}
 use lib.ListN.{length}
@@ -9,13 +9,12 @@ use lib.Dec.{ltb}
 use borrow.Author.Tests.{not-false}
 use Rattle.rules.specs.declared.Style.{Style}
 use Rattle.rules.specs.declared.Refusal.the-variants.{BadTool, Unfinished}
-use Rattle.rules.specs.Basics.{between}
-use Rattle.rules.specs.Bools.{both, in-range}
 use Rattle.rules.specs.Refusals.{Result, good, refuseIf, _>>_, _>>=_}
 use Rattle.rules.specs.Results.{same-value, bound, tested}
 use Rattle.rules.specs.Points.{Drawing}
 use Rattle.rules.specs.OrderFile.{readOrder}
 use Rattle.rules.specs.Moves.{Tool, Move, isTool, allMoves, givenMoves}
+use Rattle.rules.specs.Dwelling.{has-pitch}
 use Rattle.promise.specs.Bounds.{Standing, lines-most}
 use Rattle.exchange.specs.DrawingRead.{standing}
 use Rattle.exchange.specs.Kept.{order-reached}
@@ -48,7 +47,7 @@ order-roomy τ f t =
           let d = b .value in
           let r = order-reached τ f d (b .first) in
           let g = taken d t ms (b .last) in
-          let wide : 1 ≤ t .pitch = in-range 1 80 (t .pitch) (both (between 1 80 (t .pitch)) (between 1 40 (t .depth) && between 1 80 (t .clearance)) (g .0) .0) .0 in
+          let wide = has-pitch t (g .0) in
           let h : Standing d = standing (r .built) (r .low) (r .high) in
           rw (sym (g .1)) (omega (arith, moves-most d t (d .lines) (r .scale .0) wide, lines-most d h));
       small = λ ms e.

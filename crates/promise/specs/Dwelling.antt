@@ -15,13 +15,13 @@ use Rattle.rules.specs.declared.Place.{Place}
 use Rattle.rules.specs.declared.Bend.{Bend}
 use Rattle.rules.specs.declared.Bend.the-variants.{Left, Right, Middle, NoBend}
 use Rattle.rules.specs.Basics.{if_then_else_}
-use Rattle.rules.specs.Bools.{both, is-false, in-range}
+use Rattle.rules.specs.Bools.{both, is-false}
 use Rattle.rules.specs.Points.{Drawing, xOf, yOf, placeOf, lineAt}
 use Rattle.rules.specs.Ports.{bendPlace, hasPort, freePiece}
 use Rattle.rules.specs.Meeting.{samePlace}
 use Rattle.rules.specs.Demand.{noLength, portAt}
 use Rattle.rules.specs.Moves.{Tool, isTool, lineMoves, withoutDwelling, movesOnce}
-use Rattle.rules.specs.Dwelling.{same-turned, movesEach, bent-count, straight-bent}
+use Rattle.rules.specs.Dwelling.{same-turned, movesEach, has-pitch, bent-count, straight-bent}
 use Rattle.net.specs.BendKinds.{ends-apart}
 use Rattle.promise.specs.Promise.{IsLine}
 use Rattle.promise.specs.Sound.{Sound, bent}
@@ -140,15 +140,12 @@ module _ (d : Drawing) (s : Sound d) (e : ℕ) (el : IsLine d e) where
       C : Place
       C = placeOf d (l .earlier)
 
-      wide : 1 ≤ t .pitch
-      wide = in-range 1 80 (t .pitch) (both _ _ is .0) .0
-
       by : {τ : Style} → d .style ≡ τ → length (movesOnce d t l) ≡ length (withoutDwelling 0 0 (lineMoves τ (d .s) t A B C))
       by q = ap (λ (σ : Style). length (withoutDwelling 0 0 (lineMoves σ (d .s) t A B C))) q
 
       go : (τ : Style) → d .style ≡ τ → length (movesOnce d t l) ≡ movesBy τ d l
-      go OneBend q = by q ∙ bent-count (d .s) t some wide A B C ∙ each q
-      go Straight q = by q ∙ ap length (straight-bent (d .s) t A B C) ∙ bent-count (d .s) t some wide A C C ∙ rw (ends-differ, same-here C)
+      go OneBend q = by q ∙ bent-count (d .s) t some (has-pitch t is) A B C ∙ each q
+      go Straight q = by q ∙ ap length (straight-bent (d .s) t A B C) ∙ bent-count (d .s) t some (has-pitch t is) A C C ∙ rw (ends-differ, same-here C)
 
   -- Four or five.
   pub four-or-five : (t : Tool) → isTool t ≡ true → 1 ≤ d .s → (length (movesOnce d t l) ≡ 4) ⊎ (length (movesOnce d t l) ≡ 5)

@@ -13,12 +13,12 @@ use Rattle.rules.specs.declared.Kind.{Kind}
 use Rattle.rules.specs.declared.Kind.the-variants.{Guide, Plain, Feeder}
 use Rattle.rules.specs.declared.Line.{Line}
 use Rattle.rules.specs.declared.Place.{Place}
-use Rattle.rules.specs.Basics.{if_then_else_}
-use Rattle.rules.specs.Bools.{both, is-false}
+use Rattle.rules.specs.Basics.{if_then_else_, between}
+use Rattle.rules.specs.Bools.{both, is-false, in-range}
 use Rattle.rules.specs.Points.{Drawing, placeOf}
 use Rattle.rules.specs.Ports.{bendPlace}
 use Rattle.rules.specs.Meeting.{samePlace}
-use Rattle.rules.specs.Moves.{Tool, Move, travel, cut, plunge, lift, eighths, lineMoves, withoutDwelling, movesOnce, repeated, movesOver, allMoves}
+use Rattle.rules.specs.Moves.{Tool, Move, travel, cut, plunge, lift, isTool, eighths, lineMoves, withoutDwelling, movesOnce, repeated, movesOver, allMoves}
 
 -- no cut among these moves goes to the place before it; (x, y) is the place before them
 abbrev pub NeverDwells : ℕ → ℕ → List Move → Type 0
@@ -128,6 +128,10 @@ kept true true a b c d e = refl
 kept true false a b c d e = refl
 kept false true a b c d e = refl
 kept false false a b c d e = refl
+
+-- A tool has a pitch.
+pub has-pitch : (t : Tool) → isTool t ≡ true → 1 ≤ t .pitch
+has-pitch t is = in-range 1 80 (t .pitch) (both (between 1 80 (t .pitch)) (between 1 40 (t .depth) && between 1 80 (t .clearance)) is .0) .0
 
 module _ (s : ℕ) (t : Tool) (some : 1 ≤ s) (wide : 1 ≤ t .pitch) where
   -- Times scale and pitch, two coordinates are the same where they were.

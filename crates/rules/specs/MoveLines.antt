@@ -1,7 +1,8 @@
 -- The program that prints the moves of an order file's drawing, one a line, in millimetres: `travel 1.25 0.5`, `plunge -0.375`, `cut 0 0`, `lift 0.625`.
 use Prim.Native.Nat.{ℕ, zero, suc, _/_, _%_}
 use mathlib.Core.Bool.{_&&_}
-use mathlib.Core.List.{List, [], _∷_, _++_}
+use mathlib.Core.Path.{_≡_, refl}
+use mathlib.Core.List.{List, [], _∷_, _++_, map}
 use lib.ListN.{length, take}
 use lib.Dec.{leb}
 use Rattle.rules.specs.declared.Style.{Style}
@@ -51,3 +52,15 @@ wordNumber w = if between 1 8 (length w) && allOf isDigit w then valueFrom 0 w e
 
 abbrev pub wordsTool : List ℕ → List ℕ → List ℕ → Tool
 wordsTool p d c = record { pitch = wordNumber p; depth = wordNumber d; clearance = wordNumber c }
+
+-- ---- worked: "0", "0.375", "1.25", "10.875" and "408880" millimetres; "plunge -0.375" and "travel 1.25 0.5"
+
+pub workedLines :
+    (map millimetres (0 ∷ 3 ∷ 10 ∷ 87 ∷ 3271040 ∷ []) ≡ (48 ∷ []) ∷ (48 ∷ 46 ∷ 51 ∷ 55 ∷ 53 ∷ []) ∷ (49 ∷ 46 ∷ 50 ∷ 53 ∷ []) ∷ (49 ∷ 48 ∷ 46 ∷ 56 ∷ 55 ∷ 53 ∷ []) ∷ (52 ∷ 48 ∷ 56 ∷ 56 ∷ 56 ∷ 48 ∷ []) ∷ []) ×
+    (moveLines (plunge 3 ∷ travel 10 4 ∷ []) ≡ 112 ∷ 108 ∷ 117 ∷ 110 ∷ 103 ∷ 101 ∷ 32 ∷ 45 ∷ 48 ∷ 46 ∷ 51 ∷ 55 ∷ 53 ∷ 10 ∷ 116 ∷ 114 ∷ 97 ∷ 118 ∷ 101 ∷ 108 ∷ 32 ∷ 49 ∷ 46 ∷ 50 ∷ 53 ∷ 32 ∷ 48 ∷ 46 ∷ 53 ∷ 10 ∷ [])
+unfolding digits millimetres
+workedLines = (refl, refl)
+
+-- and words: "8", "80", an empty one, "8.5" and one of nine digits
+pub workedWords : map wordNumber ((56 ∷ []) ∷ (56 ∷ 48 ∷ []) ∷ [] ∷ (56 ∷ 46 ∷ 53 ∷ []) ∷ (48 ∷ 48 ∷ 48 ∷ 48 ∷ 48 ∷ 48 ∷ 48 ∷ 48 ∷ 56 ∷ []) ∷ []) ≡ 8 ∷ 80 ∷ 0 ∷ 0 ∷ 0 ∷ []
+workedWords = refl

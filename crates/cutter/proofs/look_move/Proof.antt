@@ -6,7 +6,8 @@ use Rattle.tool.specs.declared.Checked.the-variants.{Good}
 use Rattle.tool.specs.Checking.{wholeTool, checkedOf}
 use Rattle.tool.specs.Laws.{good-tool}
 use Rattle.cutter_grooves.specs.Grid.{scale}
-use Rattle.cutter.specs.Seen.{wide, seen-bad, seen-early, seen-none, seen-within, seen-made}
+use Rattle.cutter.specs.Seen.{seen-bad, seen-early, seen-none, seen-within, seen-made}
+use Rattle.rules.specs.Dwelling.{has-pitch}
 use borrow.Author.Needs.{needs}
 use Rattle.cutter.proofs.look_move.Statement.{statement}
 use Rattle.cutter.proofs.look_move.Tie as tie
@@ -29,7 +30,7 @@ ok c = sym (c .before .before .check-tool .ensures) ∙ c .numbers .given .1
 
 -- and so has a pitch
 wide-ok : (c : tie.After-numbers) → 1 ≤ wholeTool (c .before .before .before .args .t) .pitch
-wide-ok c = wide (wholeTool (c .before .before .before .args .t)) (good-tool (c .before .before .before .args .t) _ (ok c) .0)
+wide-ok c = has-pitch (wholeTool (c .before .before .before .args .t)) (good-tool (c .before .before .before .args .t) _ (ok c) .0)
 
 returns-2 : tie.Need-returns-2
 returns-2 c =

@@ -12,8 +12,9 @@ use Rattle.tool.specs.declared.Checked.the-variants.{Good}
 use Rattle.tool.specs.Checking.{wholeTool, toolOf, checkedOf}
 use Rattle.tool.specs.Laws.{good-tool, bad-tool}
 use Rattle.cutter.specs.Whole.{all-bad, all-early, all-given}
-use Rattle.cutter.specs.Seen.{wide, early, finished}
+use Rattle.cutter.specs.Seen.{early, finished}
 use Rattle.cutter.specs.Lists.{lists-refused, lists-kinds, lists-numbers, lists-all}
+use Rattle.rules.specs.Dwelling.{has-pitch}
 use borrow.Author.Needs.{needs}
 use Rattle.cutter.proofs.look_moves.Statement.{statement}
 use Rattle.cutter.proofs.look_moves.Tie as tie
@@ -51,7 +52,7 @@ counted : (c : tie.After-count-moves) (q : Plan) → let o = c .before .before .
 counted c q h =
     let b = c .before .before .before .before in
     let o = b .before .before .before .before .before in
-    c .count-moves .ensures q (wholeTool (o .args .t)) h (wide (wholeTool (o .args .t)) (good-tool (o .args .t) _ (ok b) .0))
+    c .count-moves .ensures q (wholeTool (o .args .t)) h (has-pitch (wholeTool (o .args .t)) (good-tool (o .args .t) _ (ok b) .0))
 
 -- and are to be given
 given : (c : tie.After-count-moves) (q : Plan) → let o = c .before .before .before .before .before .before .before .before .before in

@@ -1,5 +1,6 @@
 -- `move_count` meets its contract.
-use Rattle.cutter.specs.Seen.{wide, count-early, count-made}
+use Rattle.cutter.specs.Seen.{count-early, count-made}
+use Rattle.rules.specs.Dwelling.{has-pitch}
 use borrow.Author.Needs.{needs}
 use Rattle.cutter.proofs.move_count.Statement.{statement}
 use Rattle.cutter.proofs.move_count.Tie as tie
@@ -13,7 +14,7 @@ count-moves-requires c κs = search needs
 returns-2 : tie.Need-returns-2
 returns-2 c =
     let e = c .before .before .before .before .before in
-    λ q t h is. count-made h t (c .count-moves .ensures q t h (wide t is)) (e .if1 .left)
+    λ q t h is. count-made h t (c .count-moves .ensures q t h (has-pitch t is)) (e .if1 .left)
 
 pub move-count-spec : {M : Type 1} → statement M
 move-count-spec = tie.close (tie.spec returns count-moves-requires returns-2)
