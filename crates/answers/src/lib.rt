@@ -67,6 +67,8 @@ pub fn refusal_number(r: Refusal) -> u16
         Refusal::OtherDrawing => 11,
         Refusal::BadTool => 12,
         Refusal::BothMarks => 13,
+        Refusal::BadCode => 14,
+        Refusal::NoNet => 15,
         Refusal::Finished => 21,
         Refusal::Unfinished => 22,
         Refusal::NoSuch => 23,

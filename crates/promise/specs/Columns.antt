@@ -19,7 +19,8 @@ use Rattle.promise.specs.Nets.{netOf}
 use Rattle.promise.specs.Sound.{Sound, Sized, Rooted, Root}
 use Rattle.promise.specs.Next.{IsRun, next}
 use Rattle.promise.specs.Climb.{Took, climb-root, climb-took}
-use Rattle.promise.specs.Index.{index-at, index-le, index-joined, index-new, Outside, before, behind, Within, within, without, within-of}
+use Rattle.rules.specs.Indices.{index-at, index-le}
+use Rattle.promise.specs.Index.{index-joined, index-new, Outside, before, behind, Within, within, without, within-of}
 
 -- the owners and the boundary once the new point stands over the run l .. r
 abbrev pub newOwners : Drawing → ℕ → ℕ → List ℕ

@@ -20,7 +20,7 @@ use Rattle.promise.specs.Nets.{netOf}
 use Rattle.promise.specs.Sound.{Sound, Sized, Rooted, Root}
 use Rattle.promise.specs.Next.{IsRun, next}
 use Rattle.promise.specs.Climb.{Took}
-use Rattle.promise.specs.Index.{index-at}
+use Rattle.rules.specs.Indices.{index-at}
 use Rattle.promise.specs.Columns.{newOwners, k-next, owners-next, length-owned, column-on, w-suc, index-is, inside-true, true-inside, false-inside, took, climb-next, climb-new}
 use Rattle.promise.specs.Border.{Stands, old, put, stands-next}
 use Rattle.promise.specs.Moved.{length-spread}

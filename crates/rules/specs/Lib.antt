@@ -28,5 +28,6 @@ pub mod Numbers
 pub mod Readings
 pub mod Lengths
 pub mod Same
+pub mod Indices
 pub mod RoundTrip
 pub mod Dwelling

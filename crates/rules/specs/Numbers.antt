@@ -4,7 +4,7 @@ use mathlib.Core.Path.{_≡_, refl, ap, sym, _∙_}
 use native.Mathlib.Omega.{arith}
 use lib.Dec.{eqb}
 use Rattle.rules.specs.declared.Refusal.{Refusal}
-use Rattle.rules.specs.declared.Refusal.the-variants.{FileEnds, WrongMark, OutOfRange, OtherStart, FewEntries, NotPlaced, Covered, NoRun, NotWhole, ExtraBytes, OtherDrawing, BadTool, BothMarks, Finished, Unfinished, NoSuch, OutputShort, NoReach}
+use Rattle.rules.specs.declared.Refusal.the-variants.{FileEnds, WrongMark, OutOfRange, OtherStart, FewEntries, NotPlaced, Covered, NoRun, NotWhole, ExtraBytes, OtherDrawing, BadTool, BothMarks, BadCode, NoNet, Finished, Unfinished, NoSuch, OutputShort, NoReach}
 use Rattle.rules.specs.declared.Answer.{Answer}
 use Rattle.rules.specs.declared.Answer.the-variants.{Accepted, Refused}
 use Rattle.rules.specs.Basics.{if_then_else_}
@@ -26,6 +26,8 @@ refusalOf n =
     if eqb n 11 then OtherDrawing else
     if eqb n 12 then BadTool else
     if eqb n 13 then BothMarks else
+    if eqb n 14 then BadCode else
+    if eqb n 15 then NoNet else
     if eqb n 21 then Finished else
     if eqb n 22 then Unfinished else
     if eqb n 23 then NoSuch else
@@ -46,6 +48,8 @@ number-back ExtraBytes = refl
 number-back OtherDrawing = refl
 number-back BadTool = refl
 number-back BothMarks = refl
+number-back BadCode = refl
+number-back NoNet = refl
 number-back Finished = refl
 number-back Unfinished = refl
 number-back NoSuch = refl

@@ -2,7 +2,7 @@
 use Prim.Native.Nat.{ℕ}
 use mathlib.Core.Bool.{Bool, true, false}
 use Rattle.rules.specs.declared.Refusal.{Refusal}
-use Rattle.rules.specs.declared.Refusal.the-variants.{FileEnds, WrongMark, OutOfRange, OtherStart, FewEntries, NotPlaced, Covered, NoRun, NotWhole, ExtraBytes, OtherDrawing, BadTool, BothMarks, Finished, Unfinished, NoSuch, OutputShort, NoReach}
+use Rattle.rules.specs.declared.Refusal.the-variants.{FileEnds, WrongMark, OutOfRange, OtherStart, FewEntries, NotPlaced, Covered, NoRun, NotWhole, ExtraBytes, OtherDrawing, BadTool, BothMarks, BadCode, NoNet, Finished, Unfinished, NoSuch, OutputShort, NoReach}
 use Rattle.rules.specs.declared.Answer.{Answer}
 use Rattle.rules.specs.declared.Answer.the-variants.{Accepted, Refused}
 
@@ -20,6 +20,8 @@ number ExtraBytes = 10
 number OtherDrawing = 11
 number BadTool = 12
 number BothMarks = 13
+number BadCode = 14
+number NoNet = 15
 number Finished = 21
 number Unfinished = 22
 number NoSuch = 23

@@ -63,6 +63,8 @@ pub enum Refusal {
     OtherDrawing,
     BadTool,
     BothMarks,
+    BadCode,
+    NoNet,
     Finished,
     Unfinished,
     NoSuch,

@@ -24,7 +24,7 @@ use Rattle.store_links.specs.Storing.{putAt, coveredOwners, withPoint}
 use Rattle.promise.specs.Sound.{Sound}
 use Rattle.promise.specs.Next.{IsRun, next}
 use Rattle.promise.specs.Climb.{Took}
-use Rattle.promise.specs.Index.{index-at}
+use Rattle.rules.specs.Indices.{index-at}
 use Rattle.promise.specs.Columns.{newOwners, k-next, owners-next, took, inside-true, true-inside, length-owned, index-is}
 use Rattle.promise.specs.Counts.{ports-next, hs-next}
 use Rattle.store_laws.specs.Reading.{run-size, entry-is}

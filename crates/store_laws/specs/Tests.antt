@@ -27,7 +27,7 @@ use Rattle.store_links.specs.Placing.{entryPoint}
 use Rattle.store_links.specs.Runs.{Within, Distinct}
 use Rattle.promise.specs.Sound.{Sound}
 use Rattle.promise.specs.Next.{IsRun}
-use Rattle.promise.specs.Index.{index-at}
+use Rattle.rules.specs.Indices.{index-at}
 use Rattle.promise.specs.Climb.{climb-root}
 use Rattle.store_laws.specs.Reading.{owner-at, entry-is, run-size, run-low}
 

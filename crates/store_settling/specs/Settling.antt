@@ -14,7 +14,7 @@ use Rattle.net.specs.Side.{inset-most}
 use Rattle.promise.specs.Sound.{Sound}
 use Rattle.promise.specs.Frames.{wide, framed}
 use Rattle.promise.specs.Climb.{climb-root}
-use Rattle.promise.specs.Index.{index-at, index-le}
+use Rattle.rules.specs.Indices.{index-at, index-le}
 use Rattle.promise.specs.Columns.{w-suc, w-placed, index-is}
 use Rattle.store_links.specs.Arrays.{Arrays, atPoint, gapOffset}
 use Rattle.store_settling.specs.Walk.{walked, firstPass, Walks, walked-past, walks-past, walked-go, go-walks}

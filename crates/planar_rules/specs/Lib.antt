@@ -1,0 +1,2 @@
+pub mod PlanarCode
+pub mod Nets
