@@ -1,0 +1,49 @@
+use mathlib.Core.Path.{ap, sym, _∙_}
+use borrow.Author.Needs.{needs}
+use lib.ListN.{getD}
+use Rattle.planar_judging.specs.Laws.{merged-same, merged-all}
+use Rattle.planar_judging.proofs.join.Statement.{statement}
+use Rattle.planar_judging.proofs.join.Tie as tie
+
+wide-requires : tie.Need-wide-requires
+wide-requires c κs = search needs
+
+wide-requires-2 : tie.Need-wide-requires-2
+wide-requires-2 c κs = search needs
+
+element-copy-out-a : tie.Need-element-copy-out-a
+element-copy-out-a c = search needs
+
+element-copy-out-b : tie.Need-element-copy-out-b
+element-copy-out-b c = search needs
+
+returns : tie.Need-returns
+returns c =
+    let w2 = c .before .before .before in
+    let w = w2 .before in
+    let a = w .before .args in
+    let l = a .lab .now in
+    merged-same (a .n) (a .v) (a .u) l (ap (λ i. getD l i 0) (sym (w .wide .ensures .0)) ∙ c .if1 .taken ∙ ap (λ i. getD l i 0) (w2 .wide2 .ensures .0))
+
+relabel-requires : tie.Need-relabel-requires
+relabel-requires c κs = search needs
+
+returns-2 : tie.Need-returns-2
+returns-2 c =
+    let w2 = c .before .before .before .before .before in
+    let w = w2 .before in
+    let a = w .before .args in
+    let l = a .lab .now in
+    merged-all (a .n) (a .v) (a .u) (getD l (w .wide .result) 0) (getD l (w2 .wide2 .result) 0) l (c .relabel .last .0) (ap (λ i. getD l i 0) (w .wide .ensures .0)) (ap (λ i. getD l i 0) (w2 .wide2 .ensures .0)) (c .relabel .ensures)
+
+pub join-spec : {M : Type 1} → statement M
+join-spec =
+    tie.close
+    (tie.spec
+    wide-requires
+    wide-requires-2
+    element-copy-out-a
+    element-copy-out-b
+    returns
+    relabel-requires
+    returns-2)

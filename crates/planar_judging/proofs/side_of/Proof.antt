@@ -1,0 +1,27 @@
+use mathlib.Core.Path.{ap, _∙_}
+use borrow.Author.Needs.{needs}
+use Rattle.planar_judging.specs.Arrays.{afterIn}
+use Rattle.planar_judging.proofs.side_of.Statement.{statement}
+use Rattle.planar_judging.proofs.side_of.Tie as tie
+
+mul-broad : tie.Need-mul-broad
+mul-broad c = search needs
+
+element-copy-out-broad : tie.Need-element-copy-out-broad
+element-copy-out-broad c = search needs
+
+broad-requires : tie.Need-broad-requires
+broad-requires c κs = search needs
+
+next-requires : tie.Need-next-requires
+next-requires c κs = search needs
+
+returns : tie.Need-returns
+returns c =
+    let w = c .before in
+    let s = w .before .before in
+    c .next .ensures ∙ ap (afterIn (s .args .off .now) (s .args .own .now)) (w .broad .ensures)
+
+pub side-of-spec : {M : Type 1} → statement M
+side-of-spec =
+    tie.close (tie.spec mul-broad element-copy-out-broad broad-requires next-requires returns)

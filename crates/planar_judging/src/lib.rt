@@ -1,0 +1,263 @@
+ghost use mathlib.Core.Path.{_≡_};
+ghost use mathlib.Core.Bool.{true};
+ghost use Prim.Native.Nat.{ℕ, _+_, _<_, _≤_};
+ghost use lib.ListN.{length, getD};
+ghost use lib.Dec.{eqb};
+ghost use Rattle.planar_rules.specs.PlanarCode.{place, notSelf?, notTwice?, faces?, joined?, taken?, all};
+ghost use Rattle.planar_judging.specs.Arrays.{flatOf, Kept, Backs, Both, afterIn, Relabelled};
+ghost use Rattle.planar_judging.specs.Laws.{seekIn, Merged};
+use words::broad;
+
+// A byte, to compute with.
+pub fn wide(x: u8) -> usize
+    ensures { λ r. ⌜ (r ≡ x) × (r < 256) ⌝ }
+{
+    x as usize
+}
+
+// The highest place from lo up to hi that names u, or none.
+fn find(nbr: &[u8; 1536], lo: usize, hi: usize, u: u8, none: usize) -> usize
+    requires { ⌜ hi ≤ 1536 ⌝ }
+    ensures { λ r. ⌜ r ≡ seekIn (now (nbr .entry)) u none lo hi ⌝ }
+{
+    let mut e = hi;
+    while lo < e {
+        e -= 1;
+        let x = nbr[e];
+        if x == u {
+            return e;
+        }
+    }
+    none
+}
+
+// The place of u in v's list, or d.
+pub fn place_of(
+    n: u8,
+    d: usize,
+    off: &[u16; 257],
+    own: &[u8; 1536],
+    nbr: &[u8; 1536],
+    v: u8,
+    u: u8,
+) -> usize
+    requires { ⌜ Kept n d (now off) (now own) (now nbr) × (v < n) ⌝ }
+    ensures { λ r. ⌜ r ≡ place (flatOf n d (now (off .entry)) (now (own .entry)) (now (nbr .entry))) v u ⌝ }
+{
+    let i = wide(v);
+    let lo = broad(off[i]);
+    let hi = broad(off[i + 1]);
+    find(nbr, lo, hi, u, d)
+}
+
+// "no list names its own vertex"
+fn not_self(n: u8, d: usize, off: &[u16; 257], own: &[u8; 1536], nbr: &[u8; 1536]) -> bool
+    requires { ⌜ Kept n d (now off) (now own) (now nbr) ⌝ }
+    ensures { λ r. ⌜ r ≡ notSelf? (flatOf n d (now (off .entry)) (now (own .entry)) (now (nbr .entry))) ⌝ }
+{
+    let mut i = 0;
+    while i < d {
+        let u = nbr[i];
+        let v = own[i];
+        if u == v {
+            return false;
+        }
+        i += 1;
+    }
+    true
+}
+
+// "or one vertex twice"
+fn not_twice(n: u8, d: usize, off: &[u16; 257], own: &[u8; 1536], nbr: &[u8; 1536]) -> bool
+    requires { ⌜ Kept n d (now off) (now own) (now nbr) ⌝ }
+    ensures { λ r. ⌜ r ≡ notTwice? (flatOf n d (now (off .entry)) (now (own .entry)) (now (nbr .entry))) ⌝ }
+{
+    let mut i = 0;
+    while i < d {
+        let v = own[i];
+        let u = nbr[i];
+        let e = place_of(n, d, off, own, nbr, v, u);
+        if e != i {
+            return false;
+        }
+        i += 1;
+    }
+    true
+}
+
+// "every line stands in both lists"; bk is where, when all do.
+fn in_both(
+    n: u8,
+    d: usize,
+    off: &[u16; 257],
+    own: &[u8; 1536],
+    nbr: &[u8; 1536],
+    bk: &mut [u16; 1536],
+) -> bool
+    requires { ⌜ Kept n d (now off) (now own) (now nbr) × (length (now bk) ≡ 1536) ⌝ }
+    ensures { λ r. ⌜ Both (flatOf n d (now (off .entry)) (now (own .entry)) (now (nbr .entry))) (now (bk .exit)) r ⌝ }
+{
+    let mut i = 0;
+    while i < d {
+        let v = nbr[i];
+        let u = own[i];
+        let e = place_of(n, d, off, own, nbr, v, u);
+        if e >= d {
+            return false;
+        }
+        bk[i] = e as u16;
+        i += 1;
+    }
+    true
+}
+
+// The next place clockwise.
+pub fn next(off: &[u16; 257], own: &[u8; 1536], d: usize) -> usize
+    requires { ⌜ d < 1536 ⌝ }
+    ensures { λ r. ⌜ r ≡ afterIn (now (off .entry)) (now (own .entry)) d ⌝ }
+{
+    let v = wide(own[d]);
+    let hi = broad(off[v + 1]);
+    let e = d + 1;
+    if e == hi {
+        return broad(off[v]);
+    }
+    e
+}
+
+// The next side of the face.
+fn side_of(off: &[u16; 257], own: &[u8; 1536], bk: &[u16; 1536], d: usize) -> usize
+    requires { ⌜ (d < 1536) × (getD (now bk) d 0 < 1536) ⌝ }
+    ensures { λ r. ⌜ r ≡ afterIn (now (off .entry)) (now (own .entry)) (getD (now (bk .entry)) d 0) ⌝ }
+{
+    let e = broad(bk[d]);
+    next(off, own, e)
+}
+
+// "every face has three sides"
+fn faces(
+    n: u8,
+    d: usize,
+    off: &[u16; 257],
+    own: &[u8; 1536],
+    nbr: &[u8; 1536],
+    bk: &[u16; 1536],
+) -> bool
+    requires { ⌜ Kept n d (now off) (now own) (now nbr) × Backs (flatOf n d (now off) (now own) (now nbr)) (now bk) ⌝ }
+    ensures { λ r. ⌜ r ≡ faces? (flatOf n d (now (off .entry)) (now (own .entry)) (now (nbr .entry))) ⌝ }
+{
+    let mut i = 0;
+    while i < d {
+        let a = side_of(off, own, bk, i);
+        let b = side_of(off, own, bk, a);
+        let c = side_of(off, own, bk, b);
+        if c != i {
+            return false;
+        }
+        i += 1;
+    }
+    true
+}
+
+// All that have label a get label b.
+fn relabel(lab: &mut [u8; 256], n: u8, a: u8, b: u8)
+    requires { ⌜ length (now lab) ≡ 256 ⌝ }
+    ensures { λ _. ⌜ Relabelled n a b (now (lab .entry)) (now (lab .exit)) ⌝ }
+{
+    let mut x = 0;
+    while x < n {
+        let i = wide(x);
+        let l = lab[i];
+        if l == a {
+            lab[i] = b;
+        }
+        x += 1;
+    }
+}
+
+// At first each vertex has its own label.
+fn label(lab: &mut [u8; 256], n: u8)
+    requires { ⌜ length (now lab) ≡ 256 ⌝ }
+    ensures { λ _. ⌜ (length (now (lab .exit)) ≡ 256) × ((x : ℕ) → x < n → getD (now (lab .exit)) x 0 ≡ x) ⌝ }
+{
+    let mut x = 0;
+    while x < n {
+        lab[wide(x)] = x;
+        x += 1;
+    }
+}
+
+// The line from v to u.
+fn join(lab: &mut [u8; 256], n: u8, v: u8, u: u8)
+    requires { ⌜ length (now lab) ≡ 256 ⌝ }
+    ensures { λ _. ⌜ Merged n v u (now (lab .entry)) (now (lab .exit)) ⌝ }
+{
+    let i = wide(v);
+    let j = wide(u);
+    let a = lab[i];
+    let b = lab[j];
+    if a == b {
+        return;
+    }
+    relabel(lab, n, a, b);
+}
+
+// Whether the first n have one label.
+fn one_label(lab: &[u8; 256], n: u8) -> bool
+    requires { ⌜ length (now lab) ≡ 256 ⌝ }
+    ensures { λ r. ⌜ r ≡ all (λ x. eqb (getD (now (lab .entry)) x 0) (getD (now (lab .entry)) 0 0)) n ⌝ }
+{
+    let a = lab[0];
+    let mut x = 0;
+    while x < n {
+        let b = lab[wide(x)];
+        if b != a {
+            return false;
+        }
+        x += 1;
+    }
+    true
+}
+
+// "all is connected"
+fn joined(n: u8, d: usize, off: &[u16; 257], own: &[u8; 1536], nbr: &[u8; 1536]) -> bool
+    requires { ⌜ Kept n d (now off) (now own) (now nbr) ⌝ }
+    ensures { λ r. ⌜ r ≡ joined? (flatOf n d (now (off .entry)) (now (own .entry)) (now (nbr .entry))) ⌝ }
+{
+    let mut lab = [0; 256];
+    label(&mut lab, n);
+    let mut i = 0;
+    while i < d {
+        let v = own[i];
+        let u = nbr[i];
+        join(&mut lab, n, v, u);
+        i += 1;
+    }
+    one_label(&lab, n)
+}
+
+// 15
+pub fn taken(n: u8, d: usize, off: &[u16; 257], own: &[u8; 1536], nbr: &[u8; 1536]) -> bool
+    requires { ⌜ Kept n d (now off) (now own) (now nbr) ⌝ }
+    ensures { λ r. ⌜ r ≡ taken? (flatOf n d (now (off .entry)) (now (own .entry)) (now (nbr .entry))) ⌝ }
+{
+    let places = d + 12;
+    let twice = 6 * wide(n);
+    if places != twice {
+        return false;
+    }
+    if !not_self(n, d, off, own, nbr) {
+        return false;
+    }
+    if !not_twice(n, d, off, own, nbr) {
+        return false;
+    }
+    if !joined(n, d, off, own, nbr) {
+        return false;
+    }
+    let mut bk = [0; 1536];
+    if !in_both(n, d, off, own, nbr, &mut bk) {
+        return false;
+    }
+    faces(n, d, off, own, nbr, &bk)
+}
