@@ -1,12 +1,11 @@
 -- Bytes put into a page one behind the other, and a page that begins with what is to be printed.
-use Prim.Native.Nat.{ℕ, _+_, _≤_, _<_}
+use Prim.Native.Nat.{ℕ, _+_, _≤_}
 use mathlib.Core.Path.{_≡_, refl, ap, sym, _∙_, subst}
 use mathlib.Core.List.{List, _++_}
 use native.Mathlib.Nat.{zero-add}
-use native.Mathlib.Numerals.{add-one}
 use native.Mathlib.Omega.{arith}
-use lib.ListN.{length, take, drop, getD, set, length-append}
-use lib.Seq.{take-suc, take-length, take-at, length-take-le}
+use lib.ListN.{length, take, drop, length-append}
+use lib.Seq.{take-length, take-at}
 use Rattle.rules.specs.Refusals.{good}
 use Rattle.rules.specs.Output.{filled}
 use Rattle.words.specs.Writing.{Stored, behind, length-stored, stored-filled}
@@ -50,11 +49,6 @@ put-both {a = a} {b} p q = record { is = behind (p .behind) (p .is) (q .is); beh
 pub put-start : {page bytes after : List ℕ} {end : ℕ} → length bytes ≤ length page → Put page 0 bytes after end → Printed page bytes after end
 put-start {page} {bytes} h p =
     record { is = stored-filled h (p .is); size = p .behind ∙ zero-add (length bytes); fits = omega (arith, p .behind, length-stored (p .is)) }
-
--- one byte more of a text
-pub put-next : (text : List ℕ) (i : ℕ) {page now : List ℕ} {at : ℕ} → i < length text → Stored page at (take i text) now → Stored page at (take (i + 1) text) (set now (at + i) (getD text i 0))
-put-next text i {at = at} h p =
-    rw (add-one i, take-suc text i 0 h) (behind (ap (λ (k : ℕ). at + k) (sym (length-take-le i text (omega arith)))) p (record { is = refl }))
 
 -- all of it
 pub put-all : (text : List ℕ) (i : ℕ) {page after : List ℕ} {at : ℕ} → Stored page at (take i text) after → i ≡ length text → Put page at text after (at + i)

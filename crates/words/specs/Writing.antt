@@ -1,12 +1,12 @@
 -- Bytes and numbers stored into a buffer, one behind the other, for everything that writes a file or a list: laws over plain lists.
-use Prim.Native.Nat.{ℕ, suc, _+_, _*_, _≤_}
+use Prim.Native.Nat.{ℕ, suc, _+_, _*_, _<_, _≤_}
 use mathlib.Core.Path.{_≡_, refl, ap, sym, _∙_, subst}
 use mathlib.Core.List.{List, [], _∷_, _++_}
 use native.Mathlib.Nat.{add-zero, zero-add}
 use native.Mathlib.Numerals.{add-one}
 use native.Mathlib.Omega.{arith}
-use lib.ListN.{length, drop, set, length-append}
-use lib.Seq.{sets, length-sets, sets-eq}
+use lib.ListN.{length, getD, take, drop, set, length-append}
+use lib.Seq.{sets, length-sets, sets-eq, take-suc, length-take-le}
 use Rattle.rules.specs.Refusals.{good}
 use Rattle.rules.specs.Records.{bytesOf}
 use Rattle.rules.specs.Output.{filled}
@@ -43,6 +43,11 @@ module _ {A : Type 0} where
   pub stored-filled : {l bs l′ : List A} → length bs ≤ length l → Stored l 0 bs l′ → l′ ≡ filled l (good bs)
   stored-filled {l} {bs} h e =
       e .is ∙ sets-eq bs l 0 (rw (zero-add (length bs)) h) ∙ ap (λ (n : ℕ). bs ++ drop n l) (zero-add (length bs))
+
+-- one more byte of a list
+pub stored-next : (bs : List ℕ) (i : ℕ) {l₀ l : List ℕ} {at : ℕ} → i < length bs → Stored l₀ at (take i bs) l → Stored l₀ at (take (i + 1) bs) (set l (at + i) (getD bs i 0))
+stored-next bs i {at = at} h p =
+    rw (add-one i, take-suc bs i 0 h) (behind (ap (λ (k : ℕ). at + k) (sym (length-take-le i bs (omega arith)))) p (record { is = refl }))
 
 -- ---- numbers, two bytes each
 

@@ -27,7 +27,8 @@ pub fn narrow(v: usize) -> u16
     v as u16
 }
 
-fn byte(x: u8) -> u16
+// A byte, as a number.
+pub fn byte(x: u8) -> u16
     ensures { λ r. ⌜ (r ≡ x) × (r < 256) ⌝ }
 {
     x as u16

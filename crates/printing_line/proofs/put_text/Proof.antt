@@ -4,8 +4,8 @@ use mathlib.Core.Path.{_≡_, refl}
 use native.Mathlib.Omega.{arith}
 use lib.ListN.{length, take}
 use borrow.Author.Needs.{needs}
-use Rattle.words.specs.Writing.{Stored, stored-none}
-use Rattle.printing_line.specs.Putting.{put-next, put-all}
+use Rattle.words.specs.Writing.{Stored, stored-none, stored-next}
+use Rattle.printing_line.specs.Putting.{put-all}
 use Rattle.printing_line.proofs.put_text.Statement.{statement}
 use Rattle.printing_line.proofs.put_text.Tie as tie
 
@@ -36,7 +36,7 @@ loop-less c = search needs
 loop-again : tie.Need-loop-again Inv-loop μ-loop
 loop-again c =
     let b = c .before .before in
-    (search needs, search needs, put-next (b .before .args .text .now) (b .loop .i) (omega arith) (b .loop .inv .2))
+    (search needs, search needs, stored-next (b .before .args .text .now) (b .loop .i) (omega arith) (b .loop .inv .2))
 
 add-result : tie.Need-add-result Inv-loop μ-loop
 add-result c = search needs
