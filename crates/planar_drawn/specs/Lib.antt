@@ -1,0 +1,4 @@
+pub mod Runs
+pub mod Growing
+pub mod Written
+pub mod Read
