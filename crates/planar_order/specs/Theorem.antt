@@ -40,7 +40,7 @@ among-at (p ∷ ps) (suc i) l = go (eqb (getD (vertices ps) i 0) (p .vertex)) (a
     go true t = refl
     go false t = t
 
-among-where : (x : ℕ) (ps : List Point) → among x ps ≡ true → (i : ℕ) × (i < length ps) × (getD (vertices ps) i 0 ≡ x)
+pub among-where : (x : ℕ) (ps : List Point) → among x ps ≡ true → (i : ℕ) × (i < length ps) × (getD (vertices ps) i 0 ≡ x)
 unfolding among
 among-where x [] t = clash t refl
 among-where x (p ∷ ps) t = go (eqb x (p .vertex)) refl (among-where x ps) t
@@ -283,8 +283,16 @@ list-length f o = length-map (vertices (points f)) suc ∙ o .count-is
 
 -- ---- the theorem for a file
 
+-- a file that passes the tests: its net is one to be taken, and its first place stands in the list of vertex 0
+module _ (bs : List ℕ) (ok : formed? bs ≡ true) (t : taken? (netOf bs) ≡ true) where
+  pub valid : Valid (netOf bs)
+  valid = taken-yes (netOf bs) (four bs ok) t
+
+  pub own-first : netOf bs .own 0 ≡ 0
+  own-first =
+      let l = listed bs ok in
+      let v = valid in
+      l .within 0 0 (omega (arith, v .four)) (off-0 bs) (omega (arith, off-0 bs, bound l (good v) 0 (omega (arith, v .four)))) .1
+
 pub always : (bs : List ℕ) → formed? bs ≡ true → taken? (netOf bs) ≡ true → Ordered (netOf bs)
-always bs ok t =
-    let l = listed bs ok in
-    let v = taken-yes (netOf bs) (four bs ok) t in
-    ordered (netOf bs) l v (l .within 0 0 (omega (arith, v .four)) (off-0 bs) (omega (arith, off-0 bs, bound l (good v) 0 (omega (arith, v .four)))) .1)
+always bs ok t = ordered (netOf bs) (listed bs ok) (valid bs ok t) (own-first bs ok t)

@@ -47,9 +47,13 @@ module _ (x y h a b x′ y′ h′ a′ b′ i : ℕ) (ex : x′ ≡ x) (ey : y�
       let c = both (leb (x + i + b) (a + y)) (leb (a + b + 2 * h) (x + y + i)) t in
       (omega (arith, leb-true (x + i + b) (a + y) (c .0)), omega (arith, leb-true (a + b + 2 * h) (x + y + i) (c .1)))
 
-  -- and where it fails
+  -- what makes it hold
+  pub reaching : x′ + i + b′ ≤ a′ + y′ → a′ + b′ + 2 * h′ ≤ x′ + y′ + i → reaches x y h i a b ≡ true
+  reaching m n = rw (le-leb (x + i + b) (a + y) (omega arith), le-leb (a + b + 2 * h) (x + y + i) (omega arith))
+
+  -- so that doesn't stand where it fails
   pub unreached : reaches x y h i a b ≡ false → x′ + i + b′ ≤ a′ + y′ → a′ + b′ + 2 * h′ ≤ x′ + y′ + i → ⊥
-  unreached t m n = true≢false (sym (rw (le-leb (x + i + b) (a + y) (omega arith), le-leb (a + b + 2 * h) (x + y + i) (omega arith))) ∙ t)
+  unreached t m n = true≢false (sym (reaching m n) ∙ t)
 
 -- ---- the change: `change x y h c i ps` is the first index from i on whose point in ps isn't reached, or i + length ps
 

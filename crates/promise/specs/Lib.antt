@@ -17,6 +17,8 @@ pub mod Lines
 pub mod Opening
 pub mod Accepted
 pub mod Step
+pub mod Reaching
+pub mod Taking
 pub mod Spots
 pub mod Edges
 pub mod Within

@@ -32,7 +32,7 @@ use Rattle.promise.specs.Moved.{length-spread}
 use Rattle.promise.specs.Counts.{getD-snoc, snoc-new}
 use Rattle.rules.specs.Lengths.{length-points}
 use Rattle.promise.specs.Lined.{OfEntry, Read, was, entry, read, length-lines, bend-last, bend-inner, alter-at}
-use Rattle.promise.specs.Change.{getD-inner, length-inner, reached, unreached, change-start, change-end, first-before, first-at, middle-rising}
+use Rattle.promise.specs.Change.{getD-inner, length-inner, reached, reaching, unreached, change-start, change-end, first-before, first-at, middle-rising}
 
 -- the first inner point that its own port doesn't reach
 unfoldable pub changeOf : Drawing → List Entry → ℕ → ℕ → ℕ
@@ -49,7 +49,7 @@ bendAt d es l r i =
     bent (d .style) (newBend (nth (alter (taken (d .style)) (d .drs) (w d l)) (w d l) 0) (nth (alter (taken (d .style)) (d .dls) (w d r)) (w d r) 0) (D (pointsOf es)) (changeOf d es l r) i)
 
 -- port i of the new point reaches point p
-unfoldable Test : Drawing → List Entry → ℕ → ℕ → ℕ → ℕ → Bool
+unfoldable pub Test : Drawing → List Entry → ℕ → ℕ → ℕ → ℕ → Bool
 Test d es l r i p =
     test (newX l r (spread l r d)) (newY l r (spread l r d)) (rowHeight (pointsOf es)) i (xOf (spread l r d) p) (yOf (spread l r d) p)
 
@@ -211,11 +211,11 @@ module _ (d : Drawing) (es : List Entry) (l r : ℕ) (s : Sound d) (q : IsRun d 
   h-most′ = omega (arith, h-new′)
 
   -- inner point i, from 0, is boundary point l + i + 1
-  inner-at : (i : ℕ) → suc i < r - l → getD (inner (pointsOf es)) i 0 ≡ w d (l + suc i)
+  pub inner-at : (i : ℕ) → suc i < r - l → getD (inner (pointsOf es)) i 0 ≡ w d (l + suc i)
   inner-at i b = getD-inner (pointsOf es) i (omega (arith, length-points es, size)) ∙ q .point (suc i) (omega arith)
 
   -- there are r - l - 1 of them
-  inners : suc (length (inner (pointsOf es))) ≡ r - l
+  pub inners : suc (length (inner (pointsOf es))) ≡ r - l
   inners = omega (arith, length-inner (pointsOf es), length-points es, size, q .lr)
 
   -- the test of port i against boundary point l + i, read in the new net
@@ -271,3 +271,14 @@ module _ (d : Drawing) (es : List Entry) (l r : ℕ) (s : Sound d) (q : IsRun d 
       Reach (netOf (next d es l r)) (netOf d .w c) (netOf d .k) (port d es l r c)
   unfolding port
   reaches i a c = Row.reaches i a h-new′ (changeOf d es l r) change-first c
+
+  -- and passes its test
+  pub chosen : Inv (netOf d) → {s₁ s₂ : ℕ} → Amounts OneBend (netOf d) (netOf (next d es l r)) l r s₁ s₂ → (i : ℕ) → 0 < i → i < r - l →
+      Test d es l r (middleOf (changeOf d es l r) i) (w d (l + i)) ≡ true
+  unfolding Test port
+  chosen inv a i z b =
+      let e : l + i - l ≡ i = omega arith in
+      let p : ℕ = pred (w d (l + i)) in
+      let pk : p < d .k = omega (arith, low (l + i) (omega arith)) in
+      let t = reaches inv a (l + i) (omega arith) (omega arith) in
+      rw e at (reaching _ _ _ _ _ _ _ _ _ _ _ new-x new-y new-h (old-x p pk) (old-y p pk) (t .to-a) (t .to-b))
