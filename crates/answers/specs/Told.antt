@@ -27,6 +27,8 @@ use Rattle.answers.specs.declared.Counted.{Counted}
 use Rattle.answers.specs.declared.Counted.the-variants as Counted
 use Rattle.answers.specs.declared.Listed.{Listed}
 use Rattle.answers.specs.declared.Listed.the-variants as Listed
+use Rattle.answers.specs.declared.Imported.{Imported}
+use Rattle.answers.specs.declared.Imported.the-variants as Imported
 
 -- the number of bytes written
 abbrev pub toldWritten : Written → Told ℕ
@@ -62,6 +64,13 @@ toldListed (Listed.Moves n) = gives n
 toldListed Listed.KindsShort = refusedWith (number OutputShort) 0
 toldListed Listed.NumbersShort = refusedWith (number OutputShort) 0
 toldListed (Listed.Refused r p) = refusedWith (number r) p
+
+-- the sizes of an import: order file and list of vertices
+abbrev pub toldImported : Imported → Told (ℕ × ℕ)
+toldImported (Imported.Sizes o l) = gives (o, l)
+toldImported Imported.OrderShort = refusedWith (number OutputShort) 0
+toldImported Imported.ListShort = refusedWith (number OutputShort) 0
+toldImported (Imported.Refused r p) = refusedWith (number r) p
 
 -- ---- the case for what the rules give, which tells that
 

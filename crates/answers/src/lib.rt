@@ -49,6 +49,14 @@ pub enum Listed {
     Refused(Refusal, usize),
 }
 
+// An import, written into two buffers: how many bytes of the order file and of the list of vertices, or the buffer that is too short.
+pub enum Imported {
+    Sizes(usize, usize),
+    OrderShort,
+    ListShort,
+    Refused(Refusal, usize),
+}
+
 // A refusal's number in document 01.
 pub fn refusal_number(r: Refusal) -> u16
     ensures { λ v. ⌜ v ≡ number r ⌝ }

@@ -70,6 +70,10 @@ module _ (bs : List ℕ) (ok : formed? bs ≡ true) where
       let r = in-range 4 255 (nOf bs) (t2 .0) in
       (r .0, r .1, t2 .1)
 
+  -- the lists are all there
+  pub all-lists : lists? (nOf bs) (nOf bs) (body bs) ≡ true
+  all-lists = parts .2
+
   pub four : 4 ≤ netOf bs .n
   unfolding netOf
   four = parts .0

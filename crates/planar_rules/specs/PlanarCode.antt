@@ -284,3 +284,9 @@ abbrev pub listOf : Result Import → Result (List ℕ)
 listOf wanted = do
   i ← wanted
   good (i .list)
+
+-- and how many bytes that is
+abbrev pub sizesOf : Result Import → Result (ℕ × ℕ)
+sizesOf wanted = do
+  i ← wanted
+  good (length (i .order), length (i .list))

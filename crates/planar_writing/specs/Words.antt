@@ -1,5 +1,6 @@
 -- The words of the order file, from the arrays of the numbering.
-use Prim.Native.Nat.{ℕ, zero, suc, _+_, _≤_}
+use Prim.Native.Nat.{ℕ, zero, suc, _*_, _<_, _≤_}
+use mathlib.Core.Path.{_≡_}
 use mathlib.Core.List.{List, [], _∷_, _++_, map}
 use lib.ListN.{length, getD, take, drop}
 use Rattle.rules.specs.Records.{orderMark, entriesMark, endMark}
@@ -25,3 +26,14 @@ orderWords n num ln l = orderMark ∷ n ∷ (pointsWords num ln 0 n l ++ (endMar
 unfoldable pub Fitting : List ℕ → ℕ → ℕ → List ℕ → Type 0
 Fitting ln i zero l = Unit {0}
 Fitting ln i (suc c) l = (getD ln i 0 ≤ length l) × Fitting ln (suc i) c (drop (getD ln i 0) l)
+
+-- the arrays of n numbered points, and room for both outputs
+pub record Puttable (order list : List ℕ) (n : ℕ) (ver ln ent : List ℕ) (s : ℕ) (num : List ℕ) : Type 0 where
+  pub byte : n ≤ 255
+  pub ver-size : length ver ≡ 256
+  pub ent-size : length ent ≡ 768
+  pub start : s ≤ 768
+  pub fits : Fitting ln 0 n (drop s ent)
+  pub small : (i : ℕ) → i < n → getD ver i 0 < 255
+  pub order-room : 2 * length (orderWords n num ln (drop s ent)) ≤ length order
+  pub list-room : n ≤ length list

@@ -7,8 +7,9 @@ ghost use mathlib.Core.Path.{_≡_};
 ghost use mathlib.Core.List.{map};
 ghost use Prim.Native.Nat.{ℕ, suc, _+_, _*_, _<_, _≤_};
 ghost use lib.ListN.{length, getD, take, drop};
+ghost use Rattle.rules.specs.Records.{bytesOf};
 ghost use Rattle.words.specs.Writing.{Pasted, Stored};
-ghost use Rattle.planar_writing.specs.Words.{numbersOf, pointWords, pointsWords, orderWords, Fitting};
+ghost use Rattle.planar_writing.specs.Words.{numbersOf, pointWords, pointsWords, orderWords, Fitting, Puttable};
 
 // The point number of the vertex ent[at].
 fn number_at(ent: &[u8; 768], at: usize, num: &[u8; 256]) -> u16
@@ -83,7 +84,7 @@ fn put_points(
 }
 
 // Writes the order file. Returns its length.
-pub fn put_order(
+fn put_order(
     out: &mut [u8],
     n: usize,
     ln: &[u8; 256],
@@ -100,7 +101,7 @@ pub fn put_order(
 }
 
 // Writes the file's vertices by point; the file counts them from 1.
-pub fn put_list(out: &mut [u8], n: usize, ver: &[u8; 256])
+fn put_list(out: &mut [u8], n: usize, ver: &[u8; 256])
     requires { ⌜ (n ≤ length (now out)) × (n ≤ 255) × (length (now ver) ≡ 256) × ((i : ℕ) → i < n → getD (now ver) i 0 < 255) ⌝ }
     ensures { λ _. ⌜ Stored (now (out .entry)) 0 (map suc (take n (now (ver .entry)))) (now (out .exit)) ⌝ }
 {
@@ -109,4 +110,25 @@ pub fn put_list(out: &mut [u8], n: usize, ver: &[u8; 256])
         out[i] = ver[i] + 1;
         i += 1;
     }
+}
+
+// Writes both outputs.
+pub fn put_both(
+    order: &mut [u8],
+    list: &mut [u8],
+    n: usize,
+    ver: &[u8; 256],
+    ln: &[u8; 256],
+    ent: &[u8; 768],
+    s: usize,
+    num: &[u8; 256],
+)
+    requires { ⌜ Puttable (now order) (now list) n (now ver) (now ln) (now ent) s (now num) ⌝ }
+    ensures { λ _. ⌜
+        Stored (now (order .entry)) 0 (bytesOf (orderWords n (now (num .entry)) (now (ln .entry)) (drop s (now (ent .entry))))) (now (order .exit)) ×
+        Stored (now (list .entry)) 0 (map suc (take n (now (ver .entry)))) (now (list .exit))
+        ⌝ }
+{
+    put_order(order, n, ln, ent, s, num);
+    put_list(list, n, ver);
 }

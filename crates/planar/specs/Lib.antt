@@ -1,0 +1,4 @@
+pub mod Net
+pub mod Judged
+pub mod Numbered
+pub mod Outcome
