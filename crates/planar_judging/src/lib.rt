@@ -5,7 +5,7 @@ ghost use lib.ListN.{length, getD};
 ghost use lib.Dec.{eqb};
 ghost use Rattle.planar_rules.specs.PlanarCode.{place, notSelf?, notTwice?, faces?, joined?, taken?, all};
 ghost use Rattle.planar_judging.specs.Arrays.{flatOf, Kept, Backs, Both, afterIn, Relabelled};
-ghost use Rattle.planar_judging.specs.Laws.{seekIn, Merged};
+ghost use Rattle.planar_judging.specs.Laws.{seekIn, Merged, soundLists?, soundFaces?};
 use words::broad;
 
 // A byte, to compute with.
@@ -111,8 +111,8 @@ fn in_both(
     true
 }
 
-// The next place clockwise.
-pub fn next(off: &[u16; 257], own: &[u8; 1536], d: usize) -> usize
+// The next place clockwise: a list is read cyclically.
+pub fn after(off: &[u16; 257], own: &[u8; 1536], d: usize) -> usize
     requires { ⌜ d < 1536 ⌝ }
     ensures { λ r. ⌜ r ≡ afterIn (now (off .entry)) (now (own .entry)) d ⌝ }
 {
@@ -131,7 +131,7 @@ fn side_of(off: &[u16; 257], own: &[u8; 1536], bk: &[u16; 1536], d: usize) -> us
     ensures { λ r. ⌜ r ≡ afterIn (now (off .entry)) (now (own .entry)) (getD (now (bk .entry)) d 0) ⌝ }
 {
     let e = broad(bk[d]);
-    next(off, own, e)
+    after(off, own, e)
 }
 
 // "every face has three sides"
@@ -236,28 +236,44 @@ fn joined(n: u8, d: usize, off: &[u16; 257], own: &[u8; 1536], nbr: &[u8; 1536])
     one_label(&lab, n)
 }
 
-// 15
-pub fn taken(n: u8, d: usize, off: &[u16; 257], own: &[u8; 1536], nbr: &[u8; 1536]) -> bool
+// Whether no list names its own vertex or one vertex twice, and all is connected.
+fn sound_lists(n: u8, d: usize, off: &[u16; 257], own: &[u8; 1536], nbr: &[u8; 1536]) -> bool
     requires { ⌜ Kept n d (now off) (now own) (now nbr) ⌝ }
-    ensures { λ r. ⌜ r ≡ taken? (flatOf n d (now (off .entry)) (now (own .entry)) (now (nbr .entry))) ⌝ }
+    ensures { λ r. ⌜ r ≡ soundLists? (flatOf n d (now (off .entry)) (now (own .entry)) (now (nbr .entry))) ⌝ }
 {
-    let places = d + 12;
-    let twice = 6 * wide(n);
-    if places != twice {
-        return false;
-    }
     if !not_self(n, d, off, own, nbr) {
         return false;
     }
     if !not_twice(n, d, off, own, nbr) {
         return false;
     }
-    if !joined(n, d, off, own, nbr) {
-        return false;
-    }
+    joined(n, d, off, own, nbr)
+}
+
+// Whether every line stands in both lists, and every face has three sides.
+fn sound_faces(n: u8, d: usize, off: &[u16; 257], own: &[u8; 1536], nbr: &[u8; 1536]) -> bool
+    requires { ⌜ Kept n d (now off) (now own) (now nbr) ⌝ }
+    ensures { λ r. ⌜ r ≡ soundFaces? (flatOf n d (now (off .entry)) (now (own .entry)) (now (nbr .entry))) ⌝ }
+{
     let mut bk = [0; 1536];
     if !in_both(n, d, off, own, nbr, &mut bk) {
         return false;
     }
     faces(n, d, off, own, nbr, &bk)
+}
+
+// Whether the net is taken: what 15 asks, with the count first, since it is the cheapest.
+pub fn taken(n: u8, d: usize, off: &[u16; 257], own: &[u8; 1536], nbr: &[u8; 1536]) -> bool
+    requires { ⌜ Kept n d (now off) (now own) (now nbr) ⌝ }
+    ensures { λ r. ⌜ r ≡ taken? (flatOf n d (now (off .entry)) (now (own .entry)) (now (nbr .entry))) ⌝ }
+{
+    let places = d + 12;
+    let wanted = 6 * wide(n);
+    if places != wanted {
+        return false;
+    }
+    if !sound_lists(n, d, off, own, nbr) {
+        return false;
+    }
+    sound_faces(n, d, off, own, nbr)
 }

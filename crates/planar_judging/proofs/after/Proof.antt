@@ -1,8 +1,8 @@
 use mathlib.Core.Path.{sym}
 use borrow.Author.Needs.{needs}
 use Rattle.planar_judging.specs.Laws.{after-wrap, after-on}
-use Rattle.planar_judging.proofs.next.Statement.{statement}
-use Rattle.planar_judging.proofs.next.Tie as tie
+use Rattle.planar_judging.proofs.after.Statement.{statement}
+use Rattle.planar_judging.proofs.after.Tie as tie
 
 element-copy-out-wide : tie.Need-element-copy-out-wide
 element-copy-out-wide c = search needs
@@ -49,8 +49,8 @@ returns-2 c =
     let s = w .before .before in
     sym (after-on (s .args .off .now) (s .args .own .now) (s .args .d) (w .wide .result) (b .broad .result) (w .wide .ensures .0) (b .broad .ensures) (c .if1 .left))
 
-pub next-spec : {M : Type 1} → statement M
-next-spec =
+pub after-spec : {M : Type 1} → statement M
+after-spec =
     tie.close
     (tie.spec
     element-copy-out-wide
