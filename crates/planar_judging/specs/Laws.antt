@@ -19,19 +19,31 @@ use Rattle.planar_sphere.specs.Count.{bool, clash}
 use Rattle.planar_sphere.specs.Flat.{Listed, after-both}
 use Rattle.planar_sphere.specs.Check.{true-and, or-not, not-or, all-true, true-all, place-hit}
 
--- ---- all, from below
+-- ---- a test of every index, from below
 
-pub all-none : (p : ℕ → Bool) → all p 0 ≡ true
+-- of n, the first i pass
+pub record Passed (p : ℕ → Bool) (n i : ℕ) : Type 0 where
+  pub within : i ≤ n
+  pub yes : all p i ≡ true
+
+pub passed-none : {p : ℕ → Bool} {n : ℕ} → Passed p n 0
 unfolding all
-all-none p = refl
+passed-none = record { within = omega arith; yes = refl }
 
-pub all-more : (p : ℕ → Bool) (k : ℕ) → all p k ≡ true → p k ≡ true → all p (k + 1) ≡ true
-unfolding all
-all-more p k a e = rw (add-one k) (true-and (p k) (all p k) e a)
+module _ {p : ℕ → Bool} {n i : ℕ} (x : Passed p n i) where
+  -- the next one passes, or doesn't
+  pub passed-more : i < n → p i ≡ true → Passed p n (i + 1)
+  unfolding all
+  passed-more l e = record { within = omega arith; yes = rw (add-one i) (true-and (p i) (all p i) e (x .yes)) }
 
-pub all-stop : (p : ℕ → Bool) (n x : ℕ) → x < n → p x ≡ false → all p n ≡ false
-all-stop p n x l f = elim (bool (all p n)) [ inr z ↦ z | inl t ↦ clash (all-true p n t x l) f ]
+  pub passed-stop : i < n → p i ≡ false → false ≡ all p n
+  passed-stop l e = elim (bool (all p n)) [ inr z ↦ sym z | inl t ↦ clash (all-true p n t i l) e ]
 
+  -- there is no other
+  pub passed-all : n ≤ i → true ≡ all p n
+  passed-all l = let e : i ≡ n = omega (arith, x .within) in sym (rw e at (x .yes))
+
+-- two tests that imply each other
 pub same-bool : (a b : Bool) → (a ≡ true → b ≡ true) → (b ≡ true → a ≡ true) → a ≡ b
 same-bool true true f g = refl
 same-bool true false f g = sym (f refl)
@@ -46,14 +58,20 @@ inList nbr u lo e = leb lo e && eqb (getD nbr e 0) u
 unfoldable pub seekIn : List ℕ → ℕ → ℕ → ℕ → ℕ → ℕ
 seekIn nbr u z lo hi = seek (inList nbr u lo) z hi
 
-module _ (nbr : List ℕ) (u z lo : ℕ) where
-  pub seek-found : (e : ℕ) → lo ≤ e → getD nbr e 0 ≡ u → seekIn nbr u z lo (e + 1) ≡ e
-  unfolding seekIn seek
-  seek-found e l q = rw (add-one e, le-leb lo e l, eq-eqb _ _ q)
+suc-less : (e : ℕ) → suc e - 1 ≡ e
+suc-less e = omega arith
 
-  pub seek-on : (e : ℕ) → lo ≤ e → (getD nbr e 0 ≡ u → ⊥) → seekIn nbr u z lo (e + 1) ≡ seekIn nbr u z lo e
+-- from e down: the place below e names u, it doesn't, or there is none
+module _ (nbr : List ℕ) (u z lo : ℕ) where
+  pub seek-found : (e : ℕ) → lo < e → getD nbr (e - 1) 0 ≡ u → seekIn nbr u z lo e ≡ e - 1
   unfolding seekIn seek
-  seek-on e l q = rw (add-one e, le-leb lo e l, ne-eqb _ _ q)
+  seek-found zero l q = absurd (omega arith)
+  seek-found (suc e) l q = rw (suc-less e, le-leb lo e (omega arith), eq-eqb _ _ (rw (suc-less e) at q))
+
+  pub seek-on : (e : ℕ) → lo < e → (getD nbr (e - 1) 0 ≡ u → ⊥) → seekIn nbr u z lo e ≡ seekIn nbr u z lo (e - 1)
+  unfolding seekIn seek
+  seek-on zero l q = absurd (omega arith)
+  seek-on (suc e) l q = rw (suc-less e, le-leb lo e (omega arith), ne-eqb _ _ (rw (suc-less e) at q))
 
   pub seek-none : (e : ℕ) → e ≤ lo → seekIn nbr u z lo e ≡ z
   unfolding seekIn seek
@@ -114,15 +132,6 @@ twice-is f =
     same? : ℕ → ℕ → Bool
     same? d e = eqb (f .own d) (f .own e) && eqb (f .nbr d) (f .nbr e)
 
--- ---- the next place
-
-module _ (off own : List ℕ) (d v hi : ℕ) where
-  pub after-wrap : (lo : ℕ) → v ≡ getD own d 0 → hi ≡ getD off (v + 1) 0 → lo ≡ getD off v 0 → d + 1 ≡ hi → afterIn off own d ≡ lo
-  after-wrap lo p q r e = rw (sym p, sym q, eq-eqb _ _ e) (sym r)
-
-  pub after-on : v ≡ getD own d 0 → hi ≡ getD off (v + 1) 0 → (d + 1 ≡ hi → ⊥) → afterIn off own d ≡ d + 1
-  after-on p q e = rw (sym p, sym q, ne-eqb _ _ e)
-
 -- ---- filling an array by a function of the index
 
 pub set-more :
@@ -135,28 +144,27 @@ set-more l h i x il p e k kl =
 
 -- ---- the sides of a face
 
-module _ (n D : ℕ) (off own nbr bk : List ℕ) (k : Kept n D off own nbr) (b : Backs (flatOf n D off own nbr) bk) where
-  pub side-step :
-      (d x : ℕ) → d < D → x ≡ afterIn off own (getD bk d 0) → (x ≡ side (flatOf n D off own nbr) d) × (x < D) × (x < 1536) × (getD bk x 0 < 1536)
+module _ {n D : ℕ} {off own nbr bk : List ℕ} (k : Kept n D off own nbr) (b : Backs (flatOf n D off own nbr) bk) where
+  abbrev f : Flat
+  f = flatOf n D off own nbr
+
+  -- what `side_of` asks, and what it gives
+  pub side-asks : {d : ℕ} → d < D → (d < 1536) × (getD bk d 0 < 1536)
+  side-asks {d} l = (omega (arith, k .few), omega (arith, b .is d l, b .within d l, k .few))
+
+  pub side-gives : {d x : ℕ} → d < D → x ≡ afterIn off own (getD bk d 0) → (x ≡ side f d) × (x < D)
   unfolding after
-  side-step d x dl e =
-      let w = b d dl in
-      let q : x ≡ side (flatOf n D off own nbr) d = e ∙ ap (afterIn off own) (w .0) in
-      let i : x < D = rw q (after-both (k .listed) (back (flatOf n D off own nbr) d) (w .1) .0) in
-      let y = b x i in
-      (q, i, omega (arith, k .few), omega (arith, y .0, y .1, k .few))
+  side-gives {d} {x} l e =
+      let q : x ≡ side f d = e ∙ ap (afterIn off own) (b .is d l) in (q, rw q (after-both (k .listed) (back f d) (b .within d l) .0))
 
+  -- three times
   pub three-sides :
-      (i x y z : ℕ) → i < D → x ≡ afterIn off own (getD bk i 0) → y ≡ afterIn off own (getD bk x 0) → z ≡ afterIn off own (getD bk y 0) →
-      z ≡ side (flatOf n D off own nbr) (side (flatOf n D off own nbr) (side (flatOf n D off own nbr) i))
-  three-sides i x y z il p q r =
-      let a = side-step i x il p in
-      let c = side-step x y (a .1) q in
-      let d = side-step y z (c .1) r in
-      d .0 ∙ ap (side (flatOf n D off own nbr)) (c .0 ∙ ap (side (flatOf n D off own nbr)) (a .0))
-
-  pub first-side : (i : ℕ) → i < D → (i < 1536) × (getD bk i 0 < 1536)
-  first-side i il = let w = b i il in (omega (arith, k .few), omega (arith, w .0, w .1, k .few))
+      {i x y z : ℕ} → i < D → x ≡ afterIn off own (getD bk i 0) → y ≡ afterIn off own (getD bk x 0) → z ≡ afterIn off own (getD bk y 0) →
+      z ≡ side f (side f (side f i))
+  three-sides l p q r =
+      let a = side-gives l p in
+      let c = side-gives (a .1) q in
+      side-gives (c .1) r .0 ∙ ap (side f) (c .0 ∙ ap (side f) (a .0))
 
 -- ---- labels
 
@@ -190,30 +198,35 @@ pub record Merged (n v u : ℕ) (old new : List ℕ) : Type 0 where
   pub same : length new ≡ length old
   pub done : (x : ℕ) → x < n → getD new x 0 ≡ merge (λ y. getD old y 0) v u x
 
-pub merged-same : (n v u : ℕ) (l : List ℕ) → getD l v 0 ≡ getD l u 0 → Merged n v u l l
+-- they have one label already
+pub merged-same : {n v u : ℕ} {l : List ℕ} → getD l v 0 ≡ getD l u 0 → Merged n v u l l
 unfolding merge
-merged-same n v u l e = record { same = refl; done = λ x xl. sym (go x (eqb (getD l x 0) (getD l v 0)) refl) }
+merged-same {n} {v} {u} {l} e = record { same = refl; done = λ x xl. sym (go x (eqb (getD l x 0) (getD l v 0)) refl) }
   where
     go : (x : ℕ) (b : Bool) → eqb (getD l x 0) (getD l v 0) ≡ b → (if b then getD l u 0 else getD l x 0) ≡ getD l x 0
     go x true q = sym e ∙ sym (eqb-true _ _ q)
     go x false q = refl
 
-pub merged-all : (n v u a b : ℕ) (old new : List ℕ) → a ≡ getD old v 0 → b ≡ getD old u 0 → Relabelled n a b old new → Merged n v u old new
+-- all of v's label are given u's
+pub merged-all : {n v u a b : ℕ} {old new : List ℕ} → a ≡ getD old v 0 → b ≡ getD old u 0 → Relabelled n a b old new → Merged n v u old new
 unfolding merge
-merged-all n v u a b old new p q r = record { same = r .same; done = λ x xl. r .done x xl ∙ ap (λ k. (if eqb (getD old x 0) k then b else getD old x 0)) p ∙ ap (λ k. (if eqb (getD old x 0) (getD old v 0) then k else getD old x 0)) q }
+merged-all {old = old} p q r = record { same = r .same; done = λ x xl. r .done x xl ∙ rw (p, q) }
 
 -- the labels after i lines
 abbrev pub Labelled : Flat → ℕ → List ℕ → Type 0
 Labelled f i lab = (x : ℕ) → x < f .n → getD lab x 0 ≡ labels f i x
 
+-- before the first line each vertex has its own
 pub labelled-none : (f : Flat) (lab : List ℕ) → ((x : ℕ) → x < f .n → getD lab x 0 ≡ x) → Labelled f 0 lab
 unfolding labels
 labelled-none f lab h = h
 
+-- line i gives all of its owner's label that of the vertex which it names
 pub labelled-more :
-    (f : Flat) (i : ℕ) (old new : List ℕ) → f .own i < f .n → f .nbr i < f .n → Labelled f i old → Merged (f .n) (f .own i) (f .nbr i) old new → Labelled f (i + 1) new
+    (f : Flat) (i : ℕ) {old new : List ℕ} → f .own i < f .n → f .nbr i < f .n → Labelled f i old →
+    Merged (f .n) (f .own i) (f .nbr i) old new → Labelled f (i + 1) new
 unfolding labels merge
-labelled-more f i old new a b l m x xl = rw (add-one i) (m .done x xl ∙ rw (l x xl, l (f .own i) a, l (f .nbr i) b))
+labelled-more f i a b l m x xl = rw (add-one i) (m .done x xl ∙ rw (l x xl, l (f .own i) a, l (f .nbr i) b))
 
 all-same : (p q : ℕ → Bool) (n : ℕ) → ((x : ℕ) → x < n → p x ≡ q x) → all p n ≡ all q n
 all-same p q n h = same-bool _ _ (λ t. true-all q n (λ x l. sym (h x l) ∙ all-true p n t x l)) (λ t. true-all p n (λ x l. h x l ∙ all-true q n t x l))

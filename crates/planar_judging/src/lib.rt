@@ -31,6 +31,20 @@ fn find(nbr: &[u8; 1536], lo: usize, hi: usize, u: u8, none: usize) -> usize
     none
 }
 
+// Where v's list begins.
+pub fn list_start(off: &[u16; 257], v: u8) -> usize
+    ensures { λ r. ⌜ r ≡ getD (now (off .entry)) v 0 ⌝ }
+{
+    broad(off[wide(v)])
+}
+
+// The place behind its last.
+pub fn list_end(off: &[u16; 257], v: u8) -> usize
+    ensures { λ r. ⌜ r ≡ getD (now (off .entry)) (v + 1) 0 ⌝ }
+{
+    broad(off[wide(v) + 1])
+}
+
 // The place of u in v's list, or d.
 pub fn place_of(
     n: u8,
@@ -44,9 +58,8 @@ pub fn place_of(
     requires { ⌜ Kept n d (now off) (now own) (now nbr) × (v < n) ⌝ }
     ensures { λ r. ⌜ r ≡ place (flatOf n d (now (off .entry)) (now (own .entry)) (now (nbr .entry))) v u ⌝ }
 {
-    let i = wide(v);
-    let lo = broad(off[i]);
-    let hi = broad(off[i + 1]);
+    let lo = list_start(off, v);
+    let hi = list_end(off, v);
     find(nbr, lo, hi, u, d)
 }
 
@@ -116,11 +129,11 @@ pub fn after(off: &[u16; 257], own: &[u8; 1536], d: usize) -> usize
     requires { ⌜ d < 1536 ⌝ }
     ensures { λ r. ⌜ r ≡ afterIn (now (off .entry)) (now (own .entry)) d ⌝ }
 {
-    let v = wide(own[d]);
-    let hi = broad(off[v + 1]);
+    let v = own[d];
+    let hi = list_end(off, v);
     let e = d + 1;
     if e == hi {
-        return broad(off[v]);
+        return list_start(off, v);
     }
     e
 }
