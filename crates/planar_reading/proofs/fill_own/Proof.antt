@@ -62,12 +62,12 @@ loop-again c =
     let some = left-some n bs (l .i) il (n - l .v) (l .inv .1) in
     ⊎-elim
     (λ w.
-      let e : n - l .v - 1 ≡ n - (l .v + 1) = omega arith in
-      rw (w .1, w .2, w .3) (
-        omega arith,
-        (rw e at (left-zero n bs (l .i) il (n - l .v) (l .inv .1) (w .0 .taken))),
-        fill-same (l .inv .2) (own-zero bs (l .i) il (l .v) (w .0 .taken)),
-      ))
+    let e : n - l .v - 1 ≡ n - (l .v + 1) = omega arith in
+    rw (w .1, w .2, w .3) (
+      omega arith,
+      (rw e at (left-zero n bs (l .i) il (n - l .v) (l .inv .1) (w .0 .taken))),
+      fill-same (l .inv .2) (own-zero bs (l .i) il (l .v) (w .0 .taken)),
+    ))
     (λ w. rw (w .1, w .2, w .3) (
       l .inv .0,
       left-more n bs (l .i) il (n - l .v) (l .inv .1) (omega (arith, w .0 .left)),

@@ -55,8 +55,8 @@ loop-again c =
     ⊎-elim
     (λ w. (omega (arith, w .1), l .inv .1 ∙ lists-zero n bs (l .i) il (l .left) some (w .0 .taken) ∙ sym (rw (w .1))))
     (λ w.
-      let in-net = lists-more n bs (l .i) il (l .left) some (omega (arith, w .0 .left)) (omega (arith, c .before .if2 .left)) in
-      (omega (arith, w .1), l .inv .1 ∙ in-net ∙ sym (rw (w .1))))
+    let in-net = lists-more n bs (l .i) il (l .left) some (omega (arith, w .0 .left)) (omega (arith, c .before .if2 .left)) in
+    (omega (arith, w .1), l .inv .1 ∙ in-net ∙ sym (rw (w .1))))
     (c .if3 .came)
 
 returns-3 : tie.Need-returns-3 Inv-loop μ-loop
