@@ -1,6 +1,6 @@
 -- Which vertex comes off next: the lowest open one, by where each boundary vertex stands.
 use Prim.Native.Nat.{ℕ, suc, _+_, _-_, _<_, _≤_}
-use mathlib.Core.Path.{_≡_, refl, ap, sym, _∙_}
+use mathlib.Core.Path.{_≡_, ap, sym, _∙_}
 use mathlib.Core.List.{List}
 use mathlib.Core.Bool.{Bool, true, false, _&&_, true≢false}
 use native.Mathlib.Omega.{arith}

@@ -16,7 +16,8 @@ use Rattle.planar_sphere.specs.Check.{all-true, true-all}
 use Rattle.planar_sphere.specs.Flat.{Listed}
 use Rattle.planar_sphere.specs.Program.{State, Free}
 
--- a line that leads to the vertex which stands at q, or to none where q is 0, is no chord of the t-th vertex: that stands at t + 1, so t and t + 2 are beside it
+-- a line to the vertex that stands at q, or to none on the boundary where q is 0, is no chord of the t-th vertex:
+-- that one stands at t + 1, so those at t and t + 2 are beside it
 abbrev pub noChord? : ℕ → ℕ → Bool
 noChord? q t = if eqb q 0 then true else if eqb q t then true else eqb q (t + 2)
 
@@ -76,8 +77,7 @@ free f s li nbr pos t en ep z d l dl ll o q =
     let k : ℕ = d - f .off (s .w t) in
     let i : f .off (s .w t) + k ≡ d = omega arith in
     let y = all-true (noChordAt? nbr pos (f .off (s .w t)) t) (f .off (s .w t + 1) - f .off (s .w t)) z k (omega arith) in
-    let e : getD pos (getD nbr (f .off (s .w t) + k) 0) 0 ≡ l + 1 = ap (λ i. getD pos (getD nbr i 0) 0) i ∙ ap (λ i. getD pos i 0) (sym (en d dl) ∙ q) ∙ ep l ll in
-    go (no-chord-yes _ t y) e
+    go (no-chord-yes _ t y) (ap (λ i. getD pos (getD nbr i 0) 0) i ∙ ap (λ i. getD pos i 0) (sym (en d dl) ∙ q) ∙ ep l ll)
   where
     go : {x : ℕ} → NoChord x t → x ≡ l + 1 → (l ≡ t + 1) ⊎ (l + 1 ≡ t)
     go (inl i) e = absurd (omega arith)

@@ -7,6 +7,9 @@ ghost use lib.ListN.{length, getD};
 ghost use Rattle.planar_rules.specs.PlanarCode.{lowest};
 ghost use Rattle.planar_choosing.specs.Free.{noChord?, freeIn};
 ghost use Rattle.planar_choosing.specs.Choosing.{Positions, Apart, Within, openIn, Chosen};
+use planar_judging::PLACE_ROOM;
+use planar_judging::START_ROOM;
+use planar_judging::VERTEX_ROOM;
 use planar_judging::list_end;
 use planar_judging::list_start;
 use planar_judging::wide;
@@ -18,7 +21,7 @@ pub struct Choice {
 }
 
 // Where v stands on the boundary, from 1, or 0.
-fn stands_at(pos: &[u8; 256], v: u8) -> usize
+fn stands_at(pos: &[u8; VERTEX_ROOM], v: u8) -> usize
     ensures { λ r. ⌜ (r ≡ getD (now (pos .entry)) v 0) × (r < 256) ⌝ }
 {
     wide(pos[wide(v)])
@@ -39,7 +42,7 @@ fn no_chord(q: usize, t: usize) -> bool
 }
 
 // Whether none of the lines at len places from lo on, which are those of the boundary's t-th vertex, is a chord.
-fn free_at(nbr: &[u8; 1536], pos: &[u8; 256], lo: usize, len: usize, t: usize) -> bool
+fn free_at(nbr: &[u8; PLACE_ROOM], pos: &[u8; VERTEX_ROOM], lo: usize, len: usize, t: usize) -> bool
     requires { ⌜ (lo + len ≤ 1536) × (t < 256) ⌝ }
     ensures { λ r. ⌜ r ≡ freeIn (now (nbr .entry)) (now (pos .entry)) lo len t ⌝ }
 {
@@ -55,7 +58,13 @@ fn free_at(nbr: &[u8; 1536], pos: &[u8; 256], lo: usize, len: usize, t: usize) -
 }
 
 // Whether none of v's lines is a chord, where v is the boundary's t-th vertex.
-fn free(off: &[u16; 257], nbr: &[u8; 1536], pos: &[u8; 256], v: u8, t: usize) -> bool
+fn free(
+    off: &[u16; START_ROOM],
+    nbr: &[u8; PLACE_ROOM],
+    pos: &[u8; VERTEX_ROOM],
+    v: u8,
+    t: usize,
+) -> bool
     requires { ⌜ Within (now off) v × (t < 256) ⌝ }
     ensures { λ r. ⌜ r ≡ freeIn (now (nbr .entry)) (now (pos .entry)) (getD (now (off .entry)) v 0) (getD (now (off .entry)) (v + 1) 0 - getD (now (off .entry)) v 0) t ⌝ }
 {
@@ -65,7 +74,7 @@ fn free(off: &[u16; 257], nbr: &[u8; 1536], pos: &[u8; 256], v: u8, t: usize) ->
 }
 
 // Puts into pos, which is 0 everywhere, where each of the boundary's m vertices stands, from 1.
-pub fn positions(b: &[u8; 256], m: usize, pos: &mut [u8; 256])
+pub fn positions(b: &[u8; VERTEX_ROOM], m: usize, pos: &mut [u8; VERTEX_ROOM])
     requires { ⌜ (m ≤ 255) × Apart (now b) m × (length (now pos) ≡ 256) × ((v : ℕ) → getD (now pos) v 0 ≡ 0) ⌝ }
     ensures { λ _. ⌜ Positions (now (b .entry)) m (now (pos .exit)) ⌝ }
 {
@@ -78,7 +87,13 @@ pub fn positions(b: &[u8; 256], m: usize, pos: &mut [u8; 256])
 }
 
 // Whether v is on the boundary, is no end of it, and has no chord.
-fn open(off: &[u16; 257], nbr: &[u8; 1536], pos: &[u8; 256], m: usize, v: u8) -> bool
+fn open(
+    off: &[u16; START_ROOM],
+    nbr: &[u8; PLACE_ROOM],
+    pos: &[u8; VERTEX_ROOM],
+    m: usize,
+    v: u8,
+) -> bool
     requires { ⌜ Within (now off) v ⌝ }
     ensures { λ r. ⌜ r ≡ openIn (now (off .entry)) (now (nbr .entry)) (now (pos .entry)) m v ⌝ }
 {
@@ -93,7 +108,13 @@ fn open(off: &[u16; 257], nbr: &[u8; 1536], pos: &[u8; 256], m: usize, v: u8) ->
 }
 
 // The lowest such vertex of n, or n.
-fn lowest_open(n: u8, off: &[u16; 257], nbr: &[u8; 1536], pos: &[u8; 256], m: usize) -> u8
+fn lowest_open(
+    n: u8,
+    off: &[u16; START_ROOM],
+    nbr: &[u8; PLACE_ROOM],
+    pos: &[u8; VERTEX_ROOM],
+    m: usize,
+) -> u8
     requires { ⌜ ((v : ℕ) → v < n → Within (now off) v) ⌝ }
     ensures { λ r. ⌜ r ≡ lowest (openIn (now (off .entry)) (now (nbr .entry)) (now (pos .entry)) m) n 0 ⌝ }
 {
@@ -108,11 +129,17 @@ fn lowest_open(n: u8, off: &[u16; 257], nbr: &[u8; 1536], pos: &[u8; 256], m: us
 }
 
 // The vertex that comes off next.
-pub fn choose(n: u8, off: &[u16; 257], nbr: &[u8; 1536], b: &[u8; 256], m: usize) -> Choice
+pub fn choose(
+    n: u8,
+    off: &[u16; START_ROOM],
+    nbr: &[u8; PLACE_ROOM],
+    b: &[u8; VERTEX_ROOM],
+    m: usize,
+) -> Choice
     requires { ⌜ (m ≤ 255) × Apart (now b) m × ((v : ℕ) → v < n → Within (now off) v) ⌝ }
     ensures { λ r. ⌜ Chosen n (now (off .entry)) (now (nbr .entry)) (now (b .entry)) m (r .v) (r .q) ⌝ }
 {
-    let mut pos = [0; 256];
+    let mut pos = [0; VERTEX_ROOM];
     positions(b, m, &mut pos);
     let v = lowest_open(n, off, nbr, &pos, m);
     let q = stands_at(&pos, v);

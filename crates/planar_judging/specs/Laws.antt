@@ -26,6 +26,7 @@ pub record Passed (p : ℕ → Bool) (n i : ℕ) : Type 0 where
   pub within : i ≤ n
   pub yes : all p i ≡ true
 
+-- none is tested yet
 pub passed-none : {p : ℕ → Bool} {n : ℕ} → Passed p n 0
 unfolding all
 passed-none = record { within = omega arith; yes = refl }
@@ -50,11 +51,13 @@ same-bool true false f g = sym (f refl)
 same-bool false true f g = g refl
 same-bool false false f g = refl
 
--- ---- the place of u among the places from lo up to hi, the highest
+-- ---- the place of u in a list
 
+-- place e is not below lo, and names u
 abbrev pub inList : List ℕ → ℕ → ℕ → ℕ → Bool
 inList nbr u lo e = leb lo e && eqb (getD nbr e 0) u
 
+-- the highest such place below hi, or z
 unfoldable pub seekIn : List ℕ → ℕ → ℕ → ℕ → ℕ → ℕ
 seekIn nbr u z lo hi = seek (inList nbr u lo) z hi
 
@@ -78,6 +81,7 @@ module _ (nbr : List ℕ) (u z lo : ℕ) where
   seek-none zero l = refl
   seek-none (suc e) l = rw (lt-leb lo e (omega arith)) (seek-none e (omega arith))
 
+-- what finds nothing from hi on may begin there
 seek-skip : (p : ℕ → Bool) (z hi k : ℕ) → ((x : ℕ) → hi ≤ x → x < hi + k → p x ≡ false) → seek p z (hi + k) ≡ seek p z hi
 unfolding seek
 seek-skip p z hi zero h = let e : hi + 0 ≡ hi = omega arith in rw e
@@ -85,11 +89,13 @@ seek-skip p z hi (suc k) h =
     let e : hi + suc k ≡ suc (hi + k) = omega arith in
     rw (e, h (hi + k) (omega arith) (omega arith)) (seek-skip p z hi k (λ x a b. h x a (omega arith)))
 
+-- tests that agree find the same
 seek-same : (p q : ℕ → Bool) (z n : ℕ) → ((x : ℕ) → x < n → p x ≡ q x) → seek p z n ≡ seek q z n
 unfolding seek
 seek-same p q z zero h = refl
 seek-same p q z (suc n) h = rw (h n (omega arith), seek-same p q z n (λ x l. h x (omega arith)))
 
+-- only v's own list can have it
 pub place-is :
     (f : Flat) (nbr : List ℕ) → ((d : ℕ) → f .nbr d ≡ getD nbr d 0) → Listed f → (v u : ℕ) → v < f .n → f .off (v + 1) ≤ f .D →
     place f v u ≡ seekIn nbr u (f .D) (f .off v) (f .off (v + 1))
@@ -114,19 +120,21 @@ place-is f nbr e l v u vn h =
 
 -- ---- no vertex twice: each place is the one that is found
 
+-- the rules compare every two places, the program each place with the one that is found
 pub twice-is : (f : Flat) → notTwice? f ≡ all (λ d. eqb (place f (f .own d) (f .nbr d)) d) (f .D)
 unfolding notTwice?
 twice-is f =
     same-bool _ _
     (λ t. true-all _ (f .D) (λ d dl.
     let w = place-hit f (f .own d) (f .nbr d) d dl refl refl in
-    or-not (same? (place f (f .own d) (f .nbr d)) d) _ (all-true (λ e. not (same? (place f (f .own d) (f .nbr d)) e) || eqb (place f (f .own d) (f .nbr d)) e) (f .D)
-    (all-true (λ d. all (λ e. not (same? d e) || eqb d e) (f .D)) (f .D) t (place f (f .own d) (f .nbr d)) (w .0)) d dl)
-    (true-and _ _ (eq-eqb _ _ (w .1)) (eq-eqb _ _ (w .2)))))
+    let e : ℕ = place f (f .own d) (f .nbr d) in
+    let one = all-true (λ d. all (λ e. not (same? d e) || eqb d e) (f .D)) (f .D) t e (w .0) in
+    or-not (same? e d) _ (all-true (λ d. not (same? e d) || eqb e d) (f .D) one d dl) (true-and _ _ (eq-eqb _ _ (w .1)) (eq-eqb _ _ (w .2)))))
     (λ t. true-all _ (f .D) (λ d dl. true-all _ (f .D) (λ e el. not-or (same? d e) _ (λ s.
     let w = both (eqb (f .own d) (f .own e)) _ s in
-    let p = eqb-true _ _ (all-true (λ d. eqb (place f (f .own d) (f .nbr d)) d) (f .D) t d dl) in
-    let q = eqb-true _ _ (all-true (λ d. eqb (place f (f .own d) (f .nbr d)) d) (f .D) t e el) in
+    let found = all-true (λ d. eqb (place f (f .own d) (f .nbr d)) d) (f .D) t in
+    let p = eqb-true _ _ (found d dl) in
+    let q = eqb-true _ _ (found e el) in
     eq-eqb d e (sym p ∙ ap (λ v. place f v (f .nbr d)) (eqb-true _ _ (w .0)) ∙ ap (place f (f .own e)) (eqb-true _ _ (w .1)) ∙ q)))))
   where
     same? : ℕ → ℕ → Bool
@@ -134,8 +142,10 @@ twice-is f =
 
 -- ---- filling an array by a function of the index
 
+-- the first i are h's, and with what is set at i the first i + 1
 pub set-more :
-    (l : List ℕ) (h : ℕ → ℕ) (i x : ℕ) → i < length l → ((k : ℕ) → k < i → getD l k 0 ≡ h k) → x ≡ h i → (k : ℕ) → k < i + 1 → getD (set l i x) k 0 ≡ h k
+    (l : List ℕ) (h : ℕ → ℕ) (i x : ℕ) → i < length l → ((k : ℕ) → k < i → getD l k 0 ≡ h k) → x ≡ h i →
+    (k : ℕ) → k < i + 1 → getD (set l i x) k 0 ≡ h k
 set-more l h i x il p e k kl =
     elim (ℕ-discrete k i) [
       | yes q ↦ ap (λ k. getD (set l i x) k 0) q ∙ getD-set-same l i x 0 il ∙ e ∙ ap h (sym q)
@@ -168,10 +178,12 @@ module _ {n D : ℕ} {off own nbr bk : List ℕ} (k : Kept n D off own nbr) (b :
 
 -- ---- labels
 
+-- none is given another yet, the next one is, or it stays
 pub relabel-none : (a b : ℕ) (l : List ℕ) → Relabelled 0 a b l l
 relabel-none a b l = record { same = refl; done = λ x p. absurd (omega arith); rest = λ x p. refl }
 
-pub relabel-set : {x a b : ℕ} {old new : List ℕ} → Relabelled x a b old new → x < length old → getD new x 0 ≡ a → Relabelled (x + 1) a b old (set new x b)
+pub relabel-set :
+    {x a b : ℕ} {old new : List ℕ} → Relabelled x a b old new → x < length old → getD new x 0 ≡ a → Relabelled (x + 1) a b old (set new x b)
 relabel-set {x} {a} {b} {old} {new} r l e =
     record {
       same = length-set new x b ∙ r .same;
@@ -228,9 +240,11 @@ pub labelled-more :
 unfolding labels merge
 labelled-more f i a b l m x xl = rw (add-one i) (m .done x xl ∙ rw (l x xl, l (f .own i) a, l (f .nbr i) b))
 
+-- tests that agree pass alike
 all-same : (p q : ℕ → Bool) (n : ℕ) → ((x : ℕ) → x < n → p x ≡ q x) → all p n ≡ all q n
 all-same p q n h = same-bool _ _ (λ t. true-all q n (λ x l. sym (h x l) ∙ all-true p n t x l)) (λ t. true-all p n (λ x l. h x l ∙ all-true q n t x l))
 
+-- the labels after the last line tell whether all is connected
 pub joined-is : (f : Flat) (lab : List ℕ) → 0 < f .n → Labelled f (f .D) lab → all (λ x. eqb (getD lab x 0) (getD lab 0 0)) (f .n) ≡ joined? f
 unfolding joined?
 joined-is f lab p l = all-same _ _ (f .n) (λ x xl. rw (l x xl, l 0 p))
@@ -261,6 +275,7 @@ six-turned true false c d false x = refl
 six-turned false b c d true x = refl
 six-turned false b c d false x = refl
 
+-- 15's tests in the program's order
 pub taken-parts : (f : Flat) → taken? f ≡ (counted? f && (soundLists? f && soundFaces? f))
 unfolding taken?
 taken-parts f = six-turned (notSelf? f) (notTwice? f) (inBoth? f) (joined? f) (counted? f) (faces? f)

@@ -46,21 +46,36 @@ boundary-is b ent c m a s len mb am se l0 mc h =
     W-length : length W ≡ M
     W-length = omega (arith, new-length B E a (a + 3) (omega arith) (omega (arith, Bl)), Bl, El)
 
+    from : a ≤ a + 3
+    from = omega arith
+
+    upto : a + 3 ≤ length B
+    upto = omega (arith, Bl)
+
+    low : (x : ℕ) → x < a → getD W x 0 ≡ getD b x 0
+    low x p = new-low B E a (a + 3) from upto x p ∙ getD-take m b x 0 (omega arith)
+
+    run : (x : ℕ) → a ≤ x → x < a + len → getD W x 0 ≡ getD ent (s + (x - a)) 0
+    run x p q =
+        let e : x ≡ a + (x - a) = omega arith in
+        ap (λ k. getD W k 0) e ∙ new-run B E a (a + 3) from upto (x - a) (omega (arith, El)) ∙
+        getD-take len (drop s ent) (x - a) 0 (omega arith) ∙ getD-drop s ent (x - a) 0
+
+    high : (x : ℕ) → a + len ≤ x → x < M → getD W x 0 ≡ getD b (x + 3 - len) 0
+    high x p q =
+        let i : ℕ = x - (a + len) in
+        let e : x ≡ a + (length E + i) = omega (arith, El) in
+        let e′ : a + 3 + i ≡ x + 3 - len = omega arith in
+        ap (λ k. getD W k 0) e ∙ new-high B E a (a + 3) from upto i ∙ ap (λ k. getD B k 0) e′ ∙ getD-take m b (x + 3 - len) 0 (omega arith)
+
     at : (x : ℕ) → x < M → boundaryVertex b ent a s len x ≡ getD W x 0
     at x xm =
         elim (decLt x a) [
-          | yes p ↦ rw (lt-ltb x a p) (sym (new-low B E a (a + 3) (omega arith) (omega (arith, Bl)) x p ∙ getD-take m b x 0 (omega arith)))
-          | no p ↦ elim (decLt x (a + len)) [
-            | yes q ↦
-                let i : ℕ = x - a in
-                let e : x ≡ a + i = omega (arith, p) in
-                rw (le-ltb x a (omega (arith, p)), lt-ltb x (a + len) q)
-                (sym (ap (λ k. getD W k 0) e ∙ new-run B E a (a + 3) (omega arith) (omega (arith, Bl)) i (omega (arith, El, p)) ∙ getD-take len (drop s ent) i 0 (omega (arith, p)) ∙ getD-drop s ent i 0))
-            | no q ↦
-                let i : ℕ = x - (a + len) in
-                let e : x ≡ a + (length E + i) = omega (arith, q, El) in
-                let e′ : a + 3 + i ≡ x + 3 - len = omega (arith, q) in
-                rw (le-ltb x a (omega (arith, p)), le-ltb x (a + len) (omega (arith, q)))
-                (sym (ap (λ k. getD W k 0) e ∙ new-high B E a (a + 3) (omega arith) (omega (arith, Bl)) i ∙ ap (λ k. getD B k 0) e′ ∙ getD-take m b (x + 3 - len) 0 (omega (arith, q))))
-          ]
+          | yes p ↦ rw (lt-ltb x a p) (sym (low x p))
+          | no p ↦
+              let ax : a ≤ x = omega (arith, p) in
+              elim (decLt x (a + len)) [
+                | yes q ↦ rw (le-ltb x a ax, lt-ltb x (a + len) q) (sym (run x ax q))
+                | no q ↦ let ex : a + len ≤ x = omega (arith, q) in rw (le-ltb x a ax, le-ltb x (a + len) ex) (sym (high x ex xm))
+              ]
         ]

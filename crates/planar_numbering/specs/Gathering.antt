@@ -5,7 +5,7 @@ use mathlib.Core.Logic.{_≢_}
 use mathlib.Core.List.{List, [], _∷_, _++_}
 use native.Mathlib.Omega.{arith}
 use lib.ListN.{length, take, drop, set, length-set, length-drop, take-append-drop}
-use lib.Seq.{getD-set-same, drop-cons, drop-set-lt, length-take-le, drop-drop}
+use lib.Seq.{set-split, drop-set-lt, drop-at, length-take-le, drop-drop}
 use borrow.Author.Tests.{eq-eqb, ne-eqb}
 use Rattle.planar_rules.specs.PlanarCode.{Flat, after, gather}
 use Rattle.planar_sphere.specs.Map.{turn}
@@ -41,10 +41,7 @@ pub record Gathered (entries : List ℕ) (s : ℕ) (old new : List ℕ) (e : ℕ
 
 -- what is set stands in front of what stood behind it
 pub drop-set : (l : List ℕ) (k v : ℕ) → k < length l → drop k (set l k v) ≡ v ∷ drop (suc k) l
-drop-set l k v kl =
-    drop-cons (set l k v) k 0 (omega (arith, length-set l k v)) ∙
-    ap (λ x. x ∷ drop (suc k) (set l k v)) (getD-set-same l k v 0 kl) ∙
-    ap (λ t. v ∷ t) (drop-set-lt (suc k) l k v (omega arith))
+drop-set l k v kl = ap (drop k) (set-split l k v kl) ∙ drop-at (take k l) (v ∷ drop (suc k) l) k (length-take-le k l (omega arith))
 
 -- nothing is gathered yet
 pub gather-begin : {f : Flat} {left d0 s : ℕ} {ent : List ℕ} → Gatherable f left d0 s → Gathering f left d0 s ent ent d0 s
@@ -114,11 +111,11 @@ module _ {f : Flat} {left d0 s : ℕ} {old new : List ℕ} {d e : ℕ} (x : Gath
         let all : gather f left (f .D) d0 [] ≡ f .nbr d ∷ take j (drop e new) = x .so-far ∙ (rw (fuel, eq-eqb (f .nbr d) left q) refl) in
         let behind : drop j (drop e new) ≡ drop s old =
         drop-drop j e new ∙ ap (λ i. drop i new) (let i : e + j ≡ s = omega (arith, x .low) in i) ∙ x .rest in
+        let count = length-take-le j (drop e new) (omega (arith, length-drop e new, x .same, x .low, x .can .top)) in
         record {
           now =
               put ∙ ap (λ l. f .nbr d ∷ l) (sym (take-append-drop j (drop e new)) ∙ ap (λ l. take j (drop e new) ++ l) behind) ∙
               ap (λ l. l ++ drop s old) (sym all);
-          from =
-              omega (arith, ap length all, e-some, x .low, length-take-le j (drop e new) (omega (arith, length-drop e new, x .same, e-in, x .low, x .can .top)));
+          from = omega (arith, ap length all, e-some, x .low, count);
           same = length-set new (e - 1) (f .nbr d) ∙ x .same;
         }

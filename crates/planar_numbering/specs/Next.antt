@@ -22,7 +22,7 @@ use Rattle.planar_judging.specs.Arrays.{flatOf}
 use Rattle.planar_choosing.specs.Choosing.{Apart, openIn, open-is, Chosen}
 use Rattle.planar_numbering.specs.Gathering.{Gatherable, Gathered}
 use Rattle.planar_numbering.specs.Boundary.{boundaryVertex, boundary-is}
-use Rattle.planar_numbering.specs.Points.{pointsIn, pointsFrom, points-length, points-more}
+use Rattle.planar_numbering.specs.Points.{pointsFrom, points-length, points-more}
 use Rattle.planar_numbering.specs.Top.{Ready, same-net}
 
 -- index k has its point, with len entries before those that stood in ent from s on, and c has the boundary without it

@@ -90,11 +90,11 @@ module _ {n D : ℕ} {off own nbr b ver ln ent : List ℕ} {m k s : ℕ} (x : Co
 
 -- points 1 and 2, put in front of the others
 two-more :
-    (ver ln : List ℕ) (v : ℕ) (c s : ℕ) (ent : List ℕ) → 1 < length ver → 1 < length ln → 0 < s → s ≤ length ent →
+    (ver ln ent : List ℕ) (s v c : ℕ) → 1 < length ver → 1 < length ln → 0 < s → s ≤ length ent →
     pointsIn (set (set ver 0 0) 1 v) (set (set ln 0 0) 1 1) 0 (suc (suc c)) (drop (s - 1) (set ent (s - 1) 0)) ≡
     record { vertex = 0; entries = [] } ∷ record { vertex = v; entries = 0 ∷ [] } ∷ pointsIn ver ln 2 c (drop s ent)
 unfolding pointsIn
-two-more ver ln v c s ent vl ll s0 sl =
+two-more ver ln ent s v c vl ll s0 sl =
     let k : ℕ = s - 1 in
     let ek : suc k ≡ s = omega arith in
     rw (drop-set ent k 0 (omega arith), ek, at-0 ver v vl, at-0 ln 1 ll, at-1 ver v vl, at-1 ln 1 ll)
@@ -110,16 +110,18 @@ two-more ver ln v c s ent vl ll s0 sl =
     behind : (l : List ℕ) (y j : ℕ) → 2 ≤ j → getD (set (set l 0 0) 1 y) j 0 ≡ getD l j 0
     behind l y j p = getD-set-other (set l 0 0) 1 j y 0 (λ e. omega arith) ∙ getD-set-other l 0 j 0 0 (λ e. omega arith)
 
+-- and then all points are numbered
 pub all-numbered :
     {f : Flat} {ver ln ent : List ℕ} {s : ℕ} → CountedDown f ver ln ent s →
     AllNumbered f (set (set ver 0 0) 1 (second f)) (set (set ln 0 0) 1 1) (set ent (s - 1) 0) (s - 1)
 unfolding points
 all-numbered {f} {ver} {ln} {ent} {s} z =
     let n : f .n ≡ suc (suc (f .n - 2)) = omega (arith, z .two) in
+    let room : s ≤ length ent = omega (arith, z .ent-size, z .s-in) in
     record {
       all =
           ap (λ k. pointsIn (set (set ver 0 0) 1 (second f)) (set (set ln 0 0) 1 1) 0 k (drop (s - 1) (set ent (s - 1) 0))) n ∙
-          two-more ver ln (second f) (f .n - 2) s ent (omega (arith, z .ver-size)) (omega (arith, z .ln-size)) (z .s-some) (omega (arith, z .ent-size, z .s-in)) ∙
+          two-more ver ln ent s (second f) (f .n - 2) (omega (arith, z .ver-size)) (omega (arith, z .ln-size)) (z .s-some) room ∙
           ap (λ t. record { vertex = 0; entries = [] } ∷ record { vertex = second f; entries = 0 ∷ [] } ∷ t) (z .all);
       ver-size = length-set (set ver 0 0) 1 (second f) ∙ length-set ver 0 0 ∙ z .ver-size;
       ln-size = length-set (set ln 0 0) 1 1 ∙ length-set ln 0 0 ∙ z .ln-size;

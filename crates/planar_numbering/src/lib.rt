@@ -12,21 +12,27 @@ ghost use Rattle.planar_numbering.specs.Top.{Begin, Ready, TopNumbered};
 ghost use Rattle.planar_numbering.specs.Next.{NextNumbered};
 ghost use Rattle.planar_numbering.specs.Numbered.{CountedDown, AllNumbered};
 use planar_choosing::choose;
+use planar_judging::PLACE_ROOM;
+use planar_judging::START_ROOM;
+use planar_judging::VERTEX_ROOM;
 use planar_judging::after;
 use planar_judging::place_of;
 use planar_judging::wide;
+
+// Room for the entries of all points.
+pub const ENTRY_ROOM: usize = 3 * VERTEX_ROOM;
 
 // Puts the neighbours from place d0 on, clockwise, up to left, into ent from s down: they stand there from left to right.
 // Returns where they begin.
 fn gather_run(
     n: u8,
     d: usize,
-    off: &[u16; 257],
-    own: &[u8; 1536],
-    nbr: &[u8; 1536],
+    off: &[u16; START_ROOM],
+    own: &[u8; PLACE_ROOM],
+    nbr: &[u8; PLACE_ROOM],
     d0: usize,
     left: u8,
-    ent: &mut [u8; 768],
+    ent: &mut [u8; ENTRY_ROOM],
     s: usize,
 ) -> usize
     requires { ⌜ Gatherable (flatOf n d (now off) (now own) (now nbr)) left d0 s × (length (now ent) ≡ 768) ⌝ }
@@ -49,13 +55,13 @@ fn gather_run(
 fn gather_entries(
     n: u8,
     d: usize,
-    off: &[u16; 257],
-    own: &[u8; 1536],
-    nbr: &[u8; 1536],
+    off: &[u16; START_ROOM],
+    own: &[u8; PLACE_ROOM],
+    nbr: &[u8; PLACE_ROOM],
     v: u8,
     left: u8,
     right: u8,
-    ent: &mut [u8; 768],
+    ent: &mut [u8; ENTRY_ROOM],
     s: usize,
 ) -> usize
     requires { ⌜ Kept n d (now off) (now own) (now nbr) × (v < n) × Gatherable (flatOf n d (now off) (now own) (now nbr)) left (place (flatOf n d (now off) (now own) (now nbr)) v right) s × (length (now ent) ≡ 768) ⌝ }
@@ -66,7 +72,14 @@ fn gather_entries(
 }
 
 // The x-th vertex of the new boundary: len entries, from ent's place s on, stand in place of b's three from the a-th on.
-fn boundary_vertex(b: &[u8; 256], ent: &[u8; 768], a: usize, s: usize, len: usize, x: usize) -> u8
+fn boundary_vertex(
+    b: &[u8; VERTEX_ROOM],
+    ent: &[u8; ENTRY_ROOM],
+    a: usize,
+    s: usize,
+    len: usize,
+    x: usize,
+) -> u8
     requires { ⌜ (a < 256) × (s + len ≤ 768) × (x + 3 < 256 + len) ⌝ }
     ensures { λ r. ⌜ r ≡ boundaryVertex (now (b .entry)) (now (ent .entry)) a s len x ⌝ }
 {
@@ -82,13 +95,13 @@ fn boundary_vertex(b: &[u8; 256], ent: &[u8; 768], a: usize, s: usize, len: usiz
 
 // Puts the whole new boundary, m + len - 3 vertices, into c.
 fn put_boundary(
-    b: &[u8; 256],
+    b: &[u8; VERTEX_ROOM],
     m: usize,
-    ent: &[u8; 768],
+    ent: &[u8; ENTRY_ROOM],
     a: usize,
     s: usize,
     len: usize,
-    c: &mut [u8; 256],
+    c: &mut [u8; VERTEX_ROOM],
 )
     requires { ⌜ (m ≤ 256) × (a + 3 ≤ m) × (s + len ≤ 768) × (2 ≤ len) × (m + len ≤ 258) × (length (now c) ≡ 256) ⌝ }
     ensures { λ _. ⌜ (length (now (c .exit)) ≡ 256) × ((x : ℕ) → x < m + len - 3 → getD (now (c .exit)) x 0 ≡ boundaryVertex (now (b .entry)) (now (ent .entry)) a s len x) ⌝ }
@@ -106,17 +119,17 @@ fn put_boundary(
 fn number_next(
     n: u8,
     d: usize,
-    off: &[u16; 257],
-    own: &[u8; 1536],
-    nbr: &[u8; 1536],
-    b: &[u8; 256],
+    off: &[u16; START_ROOM],
+    own: &[u8; PLACE_ROOM],
+    nbr: &[u8; PLACE_ROOM],
+    b: &[u8; VERTEX_ROOM],
     m: usize,
     k: usize,
-    ver: &mut [u8; 256],
-    ln: &mut [u8; 256],
-    ent: &mut [u8; 768],
+    ver: &mut [u8; VERTEX_ROOM],
+    ln: &mut [u8; VERTEX_ROOM],
+    ent: &mut [u8; ENTRY_ROOM],
     s: usize,
-    c: &mut [u8; 256],
+    c: &mut [u8; VERTEX_ROOM],
 ) -> usize
     requires { ⌜ Ready n d (now off) (now own) (now nbr) (now b) m k (now ver) (now ln) (now ent) s × (2 ≤ k) × (length (now c) ≡ 256) ⌝ }
     ensures { λ r. ⌜ NextNumbered (flatOf n d (now (off .entry)) (now (own .entry)) (now (nbr .entry))) (now (b .entry)) m k (now (ver .entry)) (now (ln .entry)) (now (ent .entry)) s (now (ver .exit)) (now (ln .exit)) (now (ent .exit)) (now (c .exit)) r ⌝ }
@@ -135,7 +148,7 @@ fn number_next(
 }
 
 // Puts len entries, from s on, at the start of b.
-fn put_first_boundary(ent: &[u8; 768], s: usize, len: usize, b: &mut [u8; 256])
+fn put_first_boundary(ent: &[u8; ENTRY_ROOM], s: usize, len: usize, b: &mut [u8; VERTEX_ROOM])
     requires { ⌜ (s + len ≤ 768) × (len ≤ 256) × (length (now b) ≡ 256) ⌝ }
     ensures { λ _. ⌜ (length (now (b .exit)) ≡ 256) × ((x : ℕ) → x < len → getD (now (b .exit)) x 0 ≡ getD (now (ent .entry)) (s + x) 0) ⌝ }
 {
@@ -151,13 +164,13 @@ fn put_first_boundary(ent: &[u8; 768], s: usize, len: usize, b: &mut [u8; 256])
 fn number_top(
     n: u8,
     d: usize,
-    off: &[u16; 257],
-    own: &[u8; 1536],
-    nbr: &[u8; 1536],
-    ver: &mut [u8; 256],
-    ln: &mut [u8; 256],
-    ent: &mut [u8; 768],
-    b: &mut [u8; 256],
+    off: &[u16; START_ROOM],
+    own: &[u8; PLACE_ROOM],
+    nbr: &[u8; PLACE_ROOM],
+    ver: &mut [u8; VERTEX_ROOM],
+    ln: &mut [u8; VERTEX_ROOM],
+    ent: &mut [u8; ENTRY_ROOM],
+    b: &mut [u8; VERTEX_ROOM],
 ) -> usize
     requires { ⌜ Begin n d (now off) (now own) (now nbr) (now ver) (now ln) (now ent) (now b) ⌝ }
     ensures { λ r. ⌜ TopNumbered n d (now (off .entry)) (now (own .entry)) (now (nbr .entry)) (now (b .exit)) (now (ver .exit)) (now (ln .exit)) (now (ent .exit)) r ⌝ }
@@ -165,8 +178,8 @@ fn number_top(
     let right = nbr[0];
     let e = after(off, own, 0);
     let v = nbr[e];
-    let s = gather_entries(n, d, off, own, nbr, v, 0, right, ent, 768);
-    let len = 768 - s;
+    let s = gather_entries(n, d, off, own, nbr, v, 0, right, ent, ENTRY_ROOM);
+    let len = ENTRY_ROOM - s;
     let k = wide(n) - 1;
     ver[k] = v;
     ln[k] = len as u8;
@@ -178,24 +191,24 @@ fn number_top(
 fn count_down(
     n: u8,
     d: usize,
-    off: &[u16; 257],
-    own: &[u8; 1536],
-    nbr: &[u8; 1536],
-    b0: [u8; 256],
-    ver: &mut [u8; 256],
-    ln: &mut [u8; 256],
-    ent: &mut [u8; 768],
+    off: &[u16; START_ROOM],
+    own: &[u8; PLACE_ROOM],
+    nbr: &[u8; PLACE_ROOM],
+    b0: [u8; VERTEX_ROOM],
+    ver: &mut [u8; VERTEX_ROOM],
+    ln: &mut [u8; VERTEX_ROOM],
+    ent: &mut [u8; ENTRY_ROOM],
     s0: usize,
 ) -> usize
     requires { ⌜ TopNumbered n d (now off) (now own) (now nbr) b0 (now ver) (now ln) (now ent) s0 ⌝ }
     ensures { λ r. ⌜ CountedDown (flatOf n d (now (off .entry)) (now (own .entry)) (now (nbr .entry))) (now (ver .exit)) (now (ln .exit)) (now (ent .exit)) r ⌝ }
 {
     let mut b = b0;
-    let mut m = 768 - s0;
+    let mut m = ENTRY_ROOM - s0;
     let mut k = wide(n) - 2;
     let mut s = s0;
     while 2 <= k {
-        let mut c = [0; 256];
+        let mut c = [0; VERTEX_ROOM];
         let len = number_next(n, d, off, own, nbr, &b, m, k, ver, ln, ent, s, &mut c);
         b = c;
         m = m + len - 3;
@@ -210,17 +223,17 @@ fn count_down(
 pub fn number(
     n: u8,
     d: usize,
-    off: &[u16; 257],
-    own: &[u8; 1536],
-    nbr: &[u8; 1536],
-    ver: &mut [u8; 256],
-    ln: &mut [u8; 256],
-    ent: &mut [u8; 768],
+    off: &[u16; START_ROOM],
+    own: &[u8; PLACE_ROOM],
+    nbr: &[u8; PLACE_ROOM],
+    ver: &mut [u8; VERTEX_ROOM],
+    ln: &mut [u8; VERTEX_ROOM],
+    ent: &mut [u8; ENTRY_ROOM],
 ) -> usize
     requires { ⌜ Begin n d (now off) (now own) (now nbr) (now ver) (now ln) (now ent) (now ver) ⌝ }
     ensures { λ r. ⌜ AllNumbered (flatOf n d (now (off .entry)) (now (own .entry)) (now (nbr .entry))) (now (ver .exit)) (now (ln .exit)) (now (ent .exit)) r ⌝ }
 {
-    let mut b = [0; 256];
+    let mut b = [0; VERTEX_ROOM];
     let s = number_top(n, d, off, own, nbr, ver, ln, ent, &mut b);
     let e = count_down(n, d, off, own, nbr, b, ver, ln, ent, s);
     ver[0] = 0;

@@ -31,7 +31,8 @@ pub begins-same :
 unfolding begins?
 begins-same as′ bs i l k e = rw (next-byte as′ i l, next-byte bs i k, eq-eqb _ _ e)
 
-pub begins-not : (as′ bs : List ℕ) (i : ℕ) → i < length as′ → i < length bs → (getD as′ i 0 ≡ getD bs i 0 → ⊥) → begins? (drop i as′) (drop i bs) ≡ false
+pub begins-not :
+    (as′ bs : List ℕ) (i : ℕ) → i < length as′ → i < length bs → (getD as′ i 0 ≡ getD bs i 0 → ⊥) → begins? (drop i as′) (drop i bs) ≡ false
 unfolding begins?
 begins-not as′ bs i l k e = rw (next-byte as′ i l, next-byte bs i k, ne-eqb _ _ e)
 
@@ -182,7 +183,8 @@ fill-one {R = R} {new = new} {d = d} f e l =
     omega (arith, ap length (f .so-far), length-append (take d new) R, ap length e)
 
 -- the next one is filled in
-pub fill-next : {X R R′ old new : List ℕ} {d x : ℕ} → Filling X R old new d → R ≡ x ∷ R′ → length X ≤ length old → Filling X R′ old (set new d x) (d + 1)
+pub fill-next :
+    {X R R′ old new : List ℕ} {d x : ℕ} → Filling X R old new d → R ≡ x ∷ R′ → length X ≤ length old → Filling X R′ old (set new d x) (d + 1)
 fill-next {X} {R} {R′} {old} {new} {d} {x} f e l =
     let r = fill-one f e l in
     let r′ : d < length new = omega (arith, f .same) in

@@ -17,10 +17,12 @@ const AT_LISTS: usize = 16;
 // The fewest vertices of a net.
 const FEWEST: u8 = 4;
 
-// Room for so many neighbours, those of 256 vertices with 6 each, and for where each list begins and the last ends.
-pub const MOST_PLACES: usize = 1536;
+// Room for so many vertices, for where each list begins and the last ends, and for the neighbours in all lists.
+const VERTEX_ROOM: usize = 256;
 
-pub const MOST_STARTS: usize = 257;
+pub const START_ROOM: usize = VERTEX_ROOM + 1;
+
+pub const PLACE_ROOM: usize = 6 * VERTEX_ROOM;
 
 // Whether the file begins with the text.
 fn begins(file: &[u8], text: &[u8]) -> bool
@@ -95,7 +97,7 @@ pub fn places(file: &[u8]) -> usize
 }
 
 // Puts into nbr which vertex each place names.
-pub fn fill_nbr(file: &[u8], nbr: &mut [u8; MOST_PLACES])
+pub fn fill_nbr(file: &[u8], nbr: &mut [u8; PLACE_ROOM])
     requires { ⌜ (length (neighbours (body (now file))) ≤ 1536) × (length (now nbr) ≡ 1536) ⌝ }
     ensures { λ _. ⌜ Filled (neighbours (body (now (file .entry)))) (now (nbr .entry)) (now (nbr .exit)) ⌝ }
 {
@@ -112,7 +114,7 @@ pub fn fill_nbr(file: &[u8], nbr: &mut [u8; MOST_PLACES])
 }
 
 // Puts into own in whose list each place stands.
-pub fn fill_own(file: &[u8], n: u8, own: &mut [u8; MOST_PLACES])
+pub fn fill_own(file: &[u8], n: u8, own: &mut [u8; PLACE_ROOM])
     requires { ⌜ (lists? n n (body (now file)) ≡ true) × (length (neighbours (body (now file))) ≤ 1536) × (length (now own) ≡ 1536) ⌝ }
     ensures { λ _. ⌜ Filled (owners 0 (body (now (file .entry)))) (now (own .entry)) (now (own .exit)) ⌝ }
 {
@@ -132,7 +134,7 @@ pub fn fill_own(file: &[u8], n: u8, own: &mut [u8; MOST_PLACES])
 }
 
 // Puts into off where each list begins, and where the last ends; off[0] is 0 already.
-pub fn fill_off(file: &[u8], n: u8, off: &mut [u16; MOST_STARTS])
+pub fn fill_off(file: &[u8], n: u8, off: &mut [u16; START_ROOM])
     requires { ⌜ (lists? n n (body (now file)) ≡ true) × (length (neighbours (body (now file))) ≤ 1536) × (length (now off) ≡ 257) × (getD (now off) 0 0 ≡ 0) ⌝ }
     ensures { λ _. ⌜ Filled (0 ∷ ends 0 (body (now (file .entry)))) (now (off .entry)) (now (off .exit)) ⌝ }
 {

@@ -1,6 +1,5 @@
 -- `planar_judging::sound_faces` meets its contract: once every line stands in both lists, bk says where, and the faces are judged by it.
 use mathlib.Core.Path.{refl, sym, _∙_}
-use borrow.Author.Needs.{needs}
 use borrow.Author.Tests.{not-true, not-false}
 use Rattle.planar_judging.proofs.sound_faces.Statement.{statement}
 use Rattle.planar_judging.proofs.sound_faces.Tie as tie

@@ -1,6 +1,5 @@
 -- `planar_judging::sound_lists` meets its contract: the first test that fails decides.
 use mathlib.Core.Path.{sym, _∙_}
-use borrow.Author.Needs.{needs}
 use borrow.Author.Tests.{not-true, not-false}
 use Rattle.planar_judging.proofs.sound_lists.Statement.{statement}
 use Rattle.planar_judging.proofs.sound_lists.Tie as tie

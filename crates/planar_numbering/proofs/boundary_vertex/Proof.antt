@@ -23,7 +23,9 @@ element-copy-out-result-2 c = search needs
 
 returns-2 : tie.Need-returns-2
 returns-2 c =
-    let a = c .before .before .before .args in sym (rw (le-ltb (a .x) (a .a) (c .before .before .if1 .left), lt-ltb (a .x) (a .a + a .len) (c .before .if2 .taken)))
+    let t = c .before in
+    let a = t .before .before .args in
+    sym (rw (le-ltb (a .x) (a .a) (t .before .if1 .left), lt-ltb (a .x) (a .a + a .len) (t .if2 .taken)))
 
 add-result-2 : tie.Need-add-result-2
 add-result-2 c = search needs
@@ -36,7 +38,9 @@ element-copy-out-result-3 c = search needs
 
 returns-3 : tie.Need-returns-3
 returns-3 c =
-    let a = c .before .before .before .args in sym (rw (le-ltb (a .x) (a .a) (c .before .before .if1 .left), le-ltb (a .x) (a .a + a .len) (c .before .if2 .left)))
+    let t = c .before in
+    let a = t .before .before .args in
+    sym (rw (le-ltb (a .x) (a .a) (t .before .if1 .left), le-ltb (a .x) (a .a + a .len) (t .if2 .left)))
 
 pub boundary-vertex-spec : {M : Type 1} → statement M
 boundary-vertex-spec =

@@ -1,5 +1,4 @@
 -- `planar_numbering::gather_entries` meets its contract: `gather_run` from where v's list names right.
-use mathlib.Core.Path.{_≡_}
 use Rattle.planar_rules.specs.PlanarCode.{run}
 use Rattle.planar_numbering.proofs.gather_entries.Statement.{statement}
 use Rattle.planar_numbering.proofs.gather_entries.Tie as tie

@@ -1,6 +1,6 @@
 -- `planar_numbering::put_boundary` meets its contract: the first x vertices of c are those of the new boundary.
 use Prim.Native.Nat.{ℕ, _-_, _<_, _≤_}
-use mathlib.Core.Path.{_≡_, _∙_}
+use mathlib.Core.Path.{_≡_}
 use native.Mathlib.Omega.{arith}
 use borrow.Author.Needs.{needs}
 use lib.ListN.{length, getD, length-set}
@@ -40,10 +40,11 @@ loop-again : tie.Need-loop-again Inv-loop μ-loop
 loop-again c =
     let z = c .before .before in
     let a = z .before .args in
-    let l = z .loop in (
+    let l = z .loop in
+    let vertex : ℕ → ℕ = boundaryVertex (a .b .now) (a .ent .now) (a .a) (a .s) (a .len) in (
       omega arith,
       simp length-set (l .inv .1),
-      set-more (l .c) (boundaryVertex (a .b .now) (a .ent .now) (a .a) (a .s) (a .len)) (l .x) _ (omega (arith, l .inv .1, z .before .pre)) (l .inv .2) (c .boundary-vertex .ensures),
+      set-more (l .c) vertex (l .x) _ (omega (arith, l .inv .1, z .before .pre)) (l .inv .2) (c .boundary-vertex .ensures),
     )
 
 returns : tie.Need-returns Inv-loop μ-loop

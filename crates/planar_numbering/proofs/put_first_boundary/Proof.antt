@@ -1,6 +1,6 @@
 -- `planar_numbering::put_first_boundary` meets its contract: the first x entries stand in b.
 use Prim.Native.Nat.{ℕ, _+_, _-_, _<_, _≤_}
-use mathlib.Core.Path.{_≡_, refl, _∙_}
+use mathlib.Core.Path.{_≡_, refl}
 use native.Mathlib.Omega.{arith}
 use borrow.Author.Needs.{needs}
 use lib.ListN.{length, getD, length-set}
