@@ -12,7 +12,7 @@ choose-requires : tie.Need-choose-requires
 choose-requires c κs = choosable (c .pre .0) (c .pre .1)
 
 sub-left : tie.Need-sub-left
-sub-left c = let p = c .before .pre in q-low (p .0) (p .1) (c .choose .ensures)
+sub-left c = let p = c .before .pre in omega (arith, q-low (p .0) (p .1) (c .choose .ensures))
 
 element-copy-out-left : tie.Need-element-copy-out-left
 element-copy-out-left c = let p = c .before .pre in omega (arith, q-high (p .0) (p .1) (c .choose .ensures), m-small (p .0) (p .1))
