@@ -112,6 +112,7 @@ module _ (f : Flat) (l : Listed f) (off nbr b pos : List ℕ) (m : ℕ) (B : Lis
   only : (v x : ℕ) → getD pos v 0 ≡ x + 1 → (x < length B) × (getD B x 0 ≡ v)
   only v x e = let w = p .only v x e in (omega (arith, w .0, mB), eB x (w .0) ∙ w .1)
 
+  -- a vertex that stands somewhere stands one above its index
   pub pos-index : (v : ℕ) → 0 < getD pos v 0 → (indexOf v B + 1 ≡ getD pos v 0) × (getD B (getD pos v 0 - 1) 0 ≡ v)
   pos-index v q =
       let x : ℕ = getD pos v 0 - 1 in
@@ -119,6 +120,7 @@ module _ (f : Flat) (l : Listed f) (off nbr b pos : List ℕ) (m : ℕ) (B : Lis
       let e : indexOf v B ≡ x = ap (λ v. indexOf v B) (sym (w .1)) ∙ index-is B dB x (w .0) in
       (omega (arith, e), w .1)
 
+  -- one that stands nowhere has no index
   no-pos : (v : ℕ) → getD pos v 0 ≡ 0 → length B ≤ indexOf v B
   no-pos v e =
       elim (decLt (indexOf v B) (length B)) [
@@ -126,6 +128,7 @@ module _ (f : Flat) (l : Listed f) (off nbr b pos : List ℕ) (m : ℕ) (B : Lis
         | yes c ↦ absurd (omega (arith, here (indexOf v B) c, ap (λ v. getD pos v 0) (index-at v B c)))
       ]
 
+  -- the tests for chords agree
   same-test :
       (later : List Point) (v t : ℕ) → v < f .n → getD B t 0 ≡ v →
       freeIn nbr pos (getD off v 0) (getD off (v + 1) 0 - getD off v 0) t ≡ free? f B t
@@ -138,6 +141,7 @@ module _ (f : Flat) (l : Listed f) (off nbr b pos : List ℕ) (m : ℕ) (B : Lis
       (λ h. yes-free f B later t (free f (stateOf B later) l nbr pos t (λ d _. en d) here h))
       (λ h. free-back f (stateOf B later) l nbr pos t (rw e vn) (λ d _. en d) only (free-yes f B later t h))
 
+  -- and so do those for a vertex that may come off
   pub open-is : (later : List Point) (v : ℕ) → v < f .n → openIn off nbr pos m v ≡ open? f B v
   unfolding openIn open?
   open-is later v vn =

@@ -21,16 +21,18 @@ use Rattle.planar_sphere.specs.Program.{State, Free}
 abbrev pub noChord? : ℕ → ℕ → Bool
 noChord? q t = if eqb q 0 then true else if eqb q t then true else eqb q (t + 2)
 
--- of len lines, from place lo on, none is a chord of the t-th vertex
+-- the line k places behind lo is no chord of the t-th vertex
 abbrev pub noChordAt? : List ℕ → List ℕ → ℕ → ℕ → ℕ → Bool
 noChordAt? nbr pos lo t k = noChord? (getD pos (getD nbr (lo + k) 0) 0) t
 
+-- none of len lines from place lo on is one
 unfoldable pub freeIn : List ℕ → List ℕ → ℕ → ℕ → ℕ → Bool
 freeIn nbr pos lo len t = all (noChordAt? nbr pos lo t) len
 
 -- ---- one test
 
 module _ (q t : ℕ) where
+  -- off the boundary, before the t-th vertex, or neither: then behind it
   pub no-chord-off : q ≡ 0 → true ≡ noChord? q t
   no-chord-off e = rw (eq-eqb q 0 e)
 
@@ -44,6 +46,7 @@ module _ (q t : ℕ) where
 abbrev NoChord : ℕ → ℕ → Type 0
 NoChord q t = (q ≡ 0) ⊎ ((q ≡ t) ⊎ (q ≡ t + 2))
 
+-- the test passes in these ways, and in no other
 no-chord-yes : (q t : ℕ) → noChord? q t ≡ true → NoChord q t
 no-chord-yes q t = go (eqb q 0) refl (eqb q t) refl
   where

@@ -61,6 +61,7 @@ inList nbr u lo e = leb lo e && eqb (getD nbr e 0) u
 unfoldable pub seekIn : List ℕ → ℕ → ℕ → ℕ → ℕ → ℕ
 seekIn nbr u z lo hi = seek (inList nbr u lo) z hi
 
+-- what the code's e - 1 comes to
 suc-less : (e : ℕ) → suc e - 1 ≡ e
 suc-less e = omega arith
 

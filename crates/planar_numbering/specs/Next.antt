@@ -81,6 +81,7 @@ module _ {n D : ℕ} {off own nbr b : List ℕ} {m k : ℕ} {ver ln ent : List �
   apart-b : Apart b m
   apart-b x y xl yl e = distinct x y (omega (arith, B-length)) (omega (arith, B-length)) (B-at x xl ∙ e ∙ sym (B-at y yl))
 
+  -- it has no more vertices than the net
   pub m-small : m ≤ 255
   m-small = omega (arith, fits f l valid own0 B later (r .going), B-length, r .arrays .byte)
 
@@ -115,6 +116,7 @@ module _ {n D : ℕ} {off own nbr b : List ℕ} {m k : ℕ} {ver ln ent : List �
   t-in : t + 1 < m
   t-in = omega (arith, t-end, B-length)
 
+  -- there is one beside it on each side
   pub m-some : 3 ≤ m
   m-some = omega (arith, t-in, t-some)
 
@@ -158,6 +160,7 @@ module _ {n D : ℕ} {off own nbr b : List ℕ} {m k : ℕ} {ver ln ent : List �
   -- ---- what the code finds: the vertex v, whose index is q - 1
 
   module _ {v q : ℕ} (ch : Chosen n off nbr b m v q) where
+    -- they are the rules' vertex, and the two beside it
     v-next : v ≡ next f B
     unfolding next
     v-next =
@@ -176,6 +179,7 @@ module _ {n D : ℕ} {off own nbr b : List ℕ} {m k : ℕ} {ver ln ent : List �
     right-is : getD b q 0 ≡ getD B (t + 1) 0
     right-is = ap (λ i. getD b i 0) q-is ∙ sym (B-at (t + 1) t-in)
 
+    -- v is a vertex, and one stands left and one right of it
     pub v-in : v < n
     v-in = rw v-is (in-net f l valid B later is t (omega (arith, t-end)))
 
@@ -197,6 +201,7 @@ module _ {n D : ℕ} {off own nbr b : List ℕ} {m k : ℕ} {ver ln ent : List �
       len-is : s - e ≡ length E
       len-is = omega (arith, w .from, ap length run-is)
 
+      -- its entries have room, and there are fewer than 256
       pub e-low : e ≤ s
       e-low = omega (arith, w .from)
 
@@ -263,6 +268,7 @@ module _ {n D : ℕ} {off own nbr b : List ℕ} {m k : ℕ} {ver ln ent : List �
     index : suc (k - 1) ≡ k
     index = omega arith
 
+    -- the arrays are ready for it
     pub ready-again : Ready n D off own nbr c′ (m + len - 3) (k - 1) ver′ ln′ ent′ (s - len)
     unfolding total
     ready-again =

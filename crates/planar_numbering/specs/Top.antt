@@ -79,6 +79,7 @@ module _ {n D : ℕ} {off own nbr ver ln ent b : List ℕ} (r : Begin n D off ow
     unfolding after
     top-is = ap (λ i. getD nbr i 0) e-is
 
+    -- it is a place, and names the vertex that the rules name
     pub e-in : e < D
     unfolding after
     e-in = rw e-is after-in

@@ -143,6 +143,7 @@ module _ (bs : List ℕ) (i : ℕ) (il : i < length bs) where
   end-more d p = ap (ends d) (next-byte bs i il) ∙ end-1 d (getD bs i 0) (drop (i + 1) bs) p
 
 module _ (bs : List ℕ) (i : ℕ) (il : length bs ≤ i) where
+  -- behind the last byte there are none
   pub nbr-done : neighbours (drop i bs) ≡ []
   unfolding neighbours
   nbr-done = rw (no-byte bs i il)
