@@ -19,47 +19,70 @@ use Rattle.planar_sphere.specs.Count.{bool, clash}
 use Rattle.planar_sphere.specs.Flat.{Listed, after-both}
 use Rattle.planar_sphere.specs.Check.{true-and, or-not, not-or, all-true, true-all, place-hit}
 
--- ---- all, from below
+-- ---- a test of every index, from below
 
-pub all-none : (p : ℕ → Bool) → all p 0 ≡ true
+-- of n, the first i pass
+pub record Passed (p : ℕ → Bool) (n i : ℕ) : Type 0 where
+  pub within : i ≤ n
+  pub yes : all p i ≡ true
+
+-- none is tested yet
+pub passed-none : {p : ℕ → Bool} {n : ℕ} → Passed p n 0
 unfolding all
-all-none p = refl
+passed-none = record { within = omega arith; yes = refl }
 
-pub all-more : (p : ℕ → Bool) (k : ℕ) → all p k ≡ true → p k ≡ true → all p (k + 1) ≡ true
-unfolding all
-all-more p k a e = rw (add-one k) (true-and (p k) (all p k) e a)
+module _ {p : ℕ → Bool} {n i : ℕ} (x : Passed p n i) where
+  -- the next one passes, or doesn't
+  pub passed-more : i < n → p i ≡ true → Passed p n (i + 1)
+  unfolding all
+  passed-more l e = record { within = omega arith; yes = rw (add-one i) (true-and (p i) (all p i) e (x .yes)) }
 
-pub all-stop : (p : ℕ → Bool) (n x : ℕ) → x < n → p x ≡ false → all p n ≡ false
-all-stop p n x l f = elim (bool (all p n)) [ inr z ↦ z | inl t ↦ clash (all-true p n t x l) f ]
+  pub passed-stop : i < n → p i ≡ false → false ≡ all p n
+  passed-stop l e = elim (bool (all p n)) [ inr z ↦ sym z | inl t ↦ clash (all-true p n t i l) e ]
 
+  -- there is no other
+  pub passed-all : n ≤ i → true ≡ all p n
+  passed-all l = let e : i ≡ n = omega (arith, x .within) in sym (rw e at (x .yes))
+
+-- two tests that imply each other
 pub same-bool : (a b : Bool) → (a ≡ true → b ≡ true) → (b ≡ true → a ≡ true) → a ≡ b
 same-bool true true f g = refl
 same-bool true false f g = sym (f refl)
 same-bool false true f g = g refl
 same-bool false false f g = refl
 
--- ---- the place of u among the places from lo up to hi, the highest
+-- ---- the place of u in a list
 
+-- place e is not below lo, and names u
 abbrev pub inList : List ℕ → ℕ → ℕ → ℕ → Bool
 inList nbr u lo e = leb lo e && eqb (getD nbr e 0) u
 
+-- the highest such place below hi, or z
 unfoldable pub seekIn : List ℕ → ℕ → ℕ → ℕ → ℕ → ℕ
 seekIn nbr u z lo hi = seek (inList nbr u lo) z hi
 
-module _ (nbr : List ℕ) (u z lo : ℕ) where
-  pub seek-found : (e : ℕ) → lo ≤ e → getD nbr e 0 ≡ u → seekIn nbr u z lo (e + 1) ≡ e
-  unfolding seekIn seek
-  seek-found e l q = rw (add-one e, le-leb lo e l, eq-eqb _ _ q)
+-- what the code's e - 1 comes to
+suc-less : (e : ℕ) → suc e - 1 ≡ e
+suc-less e = omega arith
 
-  pub seek-on : (e : ℕ) → lo ≤ e → (getD nbr e 0 ≡ u → ⊥) → seekIn nbr u z lo (e + 1) ≡ seekIn nbr u z lo e
+-- from e down: the place below e names u, it doesn't, or there is none
+module _ (nbr : List ℕ) (u z lo : ℕ) where
+  pub seek-found : (e : ℕ) → lo < e → getD nbr (e - 1) 0 ≡ u → seekIn nbr u z lo e ≡ e - 1
   unfolding seekIn seek
-  seek-on e l q = rw (add-one e, le-leb lo e l, ne-eqb _ _ q)
+  seek-found zero l q = absurd (omega arith)
+  seek-found (suc e) l q = rw (suc-less e, le-leb lo e (omega arith), eq-eqb _ _ (rw (suc-less e) at q))
+
+  pub seek-on : (e : ℕ) → lo < e → (getD nbr (e - 1) 0 ≡ u → ⊥) → seekIn nbr u z lo e ≡ seekIn nbr u z lo (e - 1)
+  unfolding seekIn seek
+  seek-on zero l q = absurd (omega arith)
+  seek-on (suc e) l q = rw (suc-less e, le-leb lo e (omega arith), ne-eqb _ _ (rw (suc-less e) at q))
 
   pub seek-none : (e : ℕ) → e ≤ lo → seekIn nbr u z lo e ≡ z
   unfolding seekIn seek
   seek-none zero l = refl
   seek-none (suc e) l = rw (lt-leb lo e (omega arith)) (seek-none e (omega arith))
 
+-- what finds nothing from hi on may begin there
 seek-skip : (p : ℕ → Bool) (z hi k : ℕ) → ((x : ℕ) → hi ≤ x → x < hi + k → p x ≡ false) → seek p z (hi + k) ≡ seek p z hi
 unfolding seek
 seek-skip p z hi zero h = let e : hi + 0 ≡ hi = omega arith in rw e
@@ -67,11 +90,13 @@ seek-skip p z hi (suc k) h =
     let e : hi + suc k ≡ suc (hi + k) = omega arith in
     rw (e, h (hi + k) (omega arith) (omega arith)) (seek-skip p z hi k (λ x a b. h x a (omega arith)))
 
+-- tests that agree find the same
 seek-same : (p q : ℕ → Bool) (z n : ℕ) → ((x : ℕ) → x < n → p x ≡ q x) → seek p z n ≡ seek q z n
 unfolding seek
 seek-same p q z zero h = refl
 seek-same p q z (suc n) h = rw (h n (omega arith), seek-same p q z n (λ x l. h x (omega arith)))
 
+-- only v's own list can have it
 pub place-is :
     (f : Flat) (nbr : List ℕ) → ((d : ℕ) → f .nbr d ≡ getD nbr d 0) → Listed f → (v u : ℕ) → v < f .n → f .off (v + 1) ≤ f .D →
     place f v u ≡ seekIn nbr u (f .D) (f .off v) (f .off (v + 1))
@@ -96,37 +121,32 @@ place-is f nbr e l v u vn h =
 
 -- ---- no vertex twice: each place is the one that is found
 
+-- the rules compare every two places, the program each place with the one that is found
 pub twice-is : (f : Flat) → notTwice? f ≡ all (λ d. eqb (place f (f .own d) (f .nbr d)) d) (f .D)
 unfolding notTwice?
 twice-is f =
     same-bool _ _
     (λ t. true-all _ (f .D) (λ d dl.
     let w = place-hit f (f .own d) (f .nbr d) d dl refl refl in
-    or-not (same? (place f (f .own d) (f .nbr d)) d) _ (all-true (λ e. not (same? (place f (f .own d) (f .nbr d)) e) || eqb (place f (f .own d) (f .nbr d)) e) (f .D)
-    (all-true (λ d. all (λ e. not (same? d e) || eqb d e) (f .D)) (f .D) t (place f (f .own d) (f .nbr d)) (w .0)) d dl)
-    (true-and _ _ (eq-eqb _ _ (w .1)) (eq-eqb _ _ (w .2)))))
+    let e : ℕ = place f (f .own d) (f .nbr d) in
+    let one = all-true (λ d. all (λ e. not (same? d e) || eqb d e) (f .D)) (f .D) t e (w .0) in
+    or-not (same? e d) _ (all-true (λ d. not (same? e d) || eqb e d) (f .D) one d dl) (true-and _ _ (eq-eqb _ _ (w .1)) (eq-eqb _ _ (w .2)))))
     (λ t. true-all _ (f .D) (λ d dl. true-all _ (f .D) (λ e el. not-or (same? d e) _ (λ s.
     let w = both (eqb (f .own d) (f .own e)) _ s in
-    let p = eqb-true _ _ (all-true (λ d. eqb (place f (f .own d) (f .nbr d)) d) (f .D) t d dl) in
-    let q = eqb-true _ _ (all-true (λ d. eqb (place f (f .own d) (f .nbr d)) d) (f .D) t e el) in
+    let found = all-true (λ d. eqb (place f (f .own d) (f .nbr d)) d) (f .D) t in
+    let p = eqb-true _ _ (found d dl) in
+    let q = eqb-true _ _ (found e el) in
     eq-eqb d e (sym p ∙ ap (λ v. place f v (f .nbr d)) (eqb-true _ _ (w .0)) ∙ ap (place f (f .own e)) (eqb-true _ _ (w .1)) ∙ q)))))
   where
     same? : ℕ → ℕ → Bool
     same? d e = eqb (f .own d) (f .own e) && eqb (f .nbr d) (f .nbr e)
 
--- ---- the next place
-
-module _ (off own : List ℕ) (d v hi : ℕ) where
-  pub after-wrap : (lo : ℕ) → v ≡ getD own d 0 → hi ≡ getD off (v + 1) 0 → lo ≡ getD off v 0 → d + 1 ≡ hi → afterIn off own d ≡ lo
-  after-wrap lo p q r e = rw (sym p, sym q, eq-eqb _ _ e) (sym r)
-
-  pub after-on : v ≡ getD own d 0 → hi ≡ getD off (v + 1) 0 → (d + 1 ≡ hi → ⊥) → afterIn off own d ≡ d + 1
-  after-on p q e = rw (sym p, sym q, ne-eqb _ _ e)
-
 -- ---- filling an array by a function of the index
 
+-- the first i are h's, and with what is set at i the first i + 1
 pub set-more :
-    (l : List ℕ) (h : ℕ → ℕ) (i x : ℕ) → i < length l → ((k : ℕ) → k < i → getD l k 0 ≡ h k) → x ≡ h i → (k : ℕ) → k < i + 1 → getD (set l i x) k 0 ≡ h k
+    (l : List ℕ) (h : ℕ → ℕ) (i x : ℕ) → i < length l → ((k : ℕ) → k < i → getD l k 0 ≡ h k) → x ≡ h i →
+    (k : ℕ) → k < i + 1 → getD (set l i x) k 0 ≡ h k
 set-more l h i x il p e k kl =
     elim (ℕ-discrete k i) [
       | yes q ↦ ap (λ k. getD (set l i x) k 0) q ∙ getD-set-same l i x 0 il ∙ e ∙ ap h (sym q)
@@ -135,35 +155,36 @@ set-more l h i x il p e k kl =
 
 -- ---- the sides of a face
 
-module _ (n D : ℕ) (off own nbr bk : List ℕ) (k : Kept n D off own nbr) (b : Backs (flatOf n D off own nbr) bk) where
-  pub side-step :
-      (d x : ℕ) → d < D → x ≡ afterIn off own (getD bk d 0) → (x ≡ side (flatOf n D off own nbr) d) × (x < D) × (x < 1536) × (getD bk x 0 < 1536)
+module _ {n D : ℕ} {off own nbr bk : List ℕ} (k : Kept n D off own nbr) (b : Backs (flatOf n D off own nbr) bk) where
+  abbrev f : Flat
+  f = flatOf n D off own nbr
+
+  -- what `side_of` asks, and what it gives
+  pub side-asks : {d : ℕ} → d < D → (d < 1536) × (getD bk d 0 < 1536)
+  side-asks {d} l = (omega (arith, k .few), omega (arith, b .is d l, b .within d l, k .few))
+
+  pub side-gives : {d x : ℕ} → d < D → x ≡ afterIn off own (getD bk d 0) → (x ≡ side f d) × (x < D)
   unfolding after
-  side-step d x dl e =
-      let w = b d dl in
-      let q : x ≡ side (flatOf n D off own nbr) d = e ∙ ap (afterIn off own) (w .0) in
-      let i : x < D = rw q (after-both (k .listed) (back (flatOf n D off own nbr) d) (w .1) .0) in
-      let y = b x i in
-      (q, i, omega (arith, k .few), omega (arith, y .0, y .1, k .few))
+  side-gives {d} {x} l e =
+      let q : x ≡ side f d = e ∙ ap (afterIn off own) (b .is d l) in (q, rw q (after-both (k .listed) (back f d) (b .within d l) .0))
 
+  -- three times
   pub three-sides :
-      (i x y z : ℕ) → i < D → x ≡ afterIn off own (getD bk i 0) → y ≡ afterIn off own (getD bk x 0) → z ≡ afterIn off own (getD bk y 0) →
-      z ≡ side (flatOf n D off own nbr) (side (flatOf n D off own nbr) (side (flatOf n D off own nbr) i))
-  three-sides i x y z il p q r =
-      let a = side-step i x il p in
-      let c = side-step x y (a .1) q in
-      let d = side-step y z (c .1) r in
-      d .0 ∙ ap (side (flatOf n D off own nbr)) (c .0 ∙ ap (side (flatOf n D off own nbr)) (a .0))
-
-  pub first-side : (i : ℕ) → i < D → (i < 1536) × (getD bk i 0 < 1536)
-  first-side i il = let w = b i il in (omega (arith, k .few), omega (arith, w .0, w .1, k .few))
+      {i x y z : ℕ} → i < D → x ≡ afterIn off own (getD bk i 0) → y ≡ afterIn off own (getD bk x 0) → z ≡ afterIn off own (getD bk y 0) →
+      z ≡ side f (side f (side f i))
+  three-sides l p q r =
+      let a = side-gives l p in
+      let c = side-gives (a .1) q in
+      side-gives (c .1) r .0 ∙ ap (side f) (c .0 ∙ ap (side f) (a .0))
 
 -- ---- labels
 
+-- none is given another yet, the next one is, or it stays
 pub relabel-none : (a b : ℕ) (l : List ℕ) → Relabelled 0 a b l l
 relabel-none a b l = record { same = refl; done = λ x p. absurd (omega arith); rest = λ x p. refl }
 
-pub relabel-set : {x a b : ℕ} {old new : List ℕ} → Relabelled x a b old new → x < length old → getD new x 0 ≡ a → Relabelled (x + 1) a b old (set new x b)
+pub relabel-set :
+    {x a b : ℕ} {old new : List ℕ} → Relabelled x a b old new → x < length old → getD new x 0 ≡ a → Relabelled (x + 1) a b old (set new x b)
 relabel-set {x} {a} {b} {old} {new} r l e =
     record {
       same = length-set new x b ∙ r .same;
@@ -190,65 +211,76 @@ pub record Merged (n v u : ℕ) (old new : List ℕ) : Type 0 where
   pub same : length new ≡ length old
   pub done : (x : ℕ) → x < n → getD new x 0 ≡ merge (λ y. getD old y 0) v u x
 
-pub merged-same : (n v u : ℕ) (l : List ℕ) → getD l v 0 ≡ getD l u 0 → Merged n v u l l
+-- they have one label already
+pub merged-same : {n v u : ℕ} {l : List ℕ} → getD l v 0 ≡ getD l u 0 → Merged n v u l l
 unfolding merge
-merged-same n v u l e = record { same = refl; done = λ x xl. sym (go x (eqb (getD l x 0) (getD l v 0)) refl) }
+merged-same {n} {v} {u} {l} e = record { same = refl; done = λ x xl. sym (go x (eqb (getD l x 0) (getD l v 0)) refl) }
   where
     go : (x : ℕ) (b : Bool) → eqb (getD l x 0) (getD l v 0) ≡ b → (if b then getD l u 0 else getD l x 0) ≡ getD l x 0
     go x true q = sym e ∙ sym (eqb-true _ _ q)
     go x false q = refl
 
-pub merged-all : (n v u a b : ℕ) (old new : List ℕ) → a ≡ getD old v 0 → b ≡ getD old u 0 → Relabelled n a b old new → Merged n v u old new
+-- all of v's label are given u's
+pub merged-all : {n v u a b : ℕ} {old new : List ℕ} → a ≡ getD old v 0 → b ≡ getD old u 0 → Relabelled n a b old new → Merged n v u old new
 unfolding merge
-merged-all n v u a b old new p q r = record { same = r .same; done = λ x xl. r .done x xl ∙ ap (λ k. (if eqb (getD old x 0) k then b else getD old x 0)) p ∙ ap (λ k. (if eqb (getD old x 0) (getD old v 0) then k else getD old x 0)) q }
+merged-all {old = old} p q r = record { same = r .same; done = λ x xl. r .done x xl ∙ rw (p, q) }
 
 -- the labels after i lines
 abbrev pub Labelled : Flat → ℕ → List ℕ → Type 0
 Labelled f i lab = (x : ℕ) → x < f .n → getD lab x 0 ≡ labels f i x
 
+-- before the first line each vertex has its own
 pub labelled-none : (f : Flat) (lab : List ℕ) → ((x : ℕ) → x < f .n → getD lab x 0 ≡ x) → Labelled f 0 lab
 unfolding labels
 labelled-none f lab h = h
 
+-- line i gives all of its owner's label that of the vertex which it names
 pub labelled-more :
-    (f : Flat) (i : ℕ) (old new : List ℕ) → f .own i < f .n → f .nbr i < f .n → Labelled f i old → Merged (f .n) (f .own i) (f .nbr i) old new → Labelled f (i + 1) new
+    (f : Flat) (i : ℕ) {old new : List ℕ} → f .own i < f .n → f .nbr i < f .n → Labelled f i old →
+    Merged (f .n) (f .own i) (f .nbr i) old new → Labelled f (i + 1) new
 unfolding labels merge
-labelled-more f i old new a b l m x xl = rw (add-one i) (m .done x xl ∙ rw (l x xl, l (f .own i) a, l (f .nbr i) b))
+labelled-more f i a b l m x xl = rw (add-one i) (m .done x xl ∙ rw (l x xl, l (f .own i) a, l (f .nbr i) b))
 
+-- tests that agree pass alike
 all-same : (p q : ℕ → Bool) (n : ℕ) → ((x : ℕ) → x < n → p x ≡ q x) → all p n ≡ all q n
 all-same p q n h = same-bool _ _ (λ t. true-all q n (λ x l. sym (h x l) ∙ all-true p n t x l)) (λ t. true-all p n (λ x l. h x l ∙ all-true q n t x l))
 
+-- the labels after the last line tell whether all is connected
 pub joined-is : (f : Flat) (lab : List ℕ) → 0 < f .n → Labelled f (f .D) lab → all (λ x. eqb (getD lab x 0) (getD lab 0 0)) (f .n) ≡ joined? f
 unfolding joined?
 joined-is f lab p l = all-same _ _ (f .n) (λ x xl. rw (l x xl, l 0 p))
 
--- ---- 15, whichever test fails first
+-- ---- 15, in the order in which the program tests
 
-and-f : (a b : Bool) → b ≡ false → (a && b) ≡ false
-and-f true b e = e
-and-f false b e = refl
+-- no list names its own vertex or one vertex twice, and all is connected
+abbrev pub soundLists? : Flat → Bool
+soundLists? f = notSelf? f && (notTwice? f && joined? f)
 
-module _ (f : Flat) where
-  pub taken-count : counted? f ≡ false → taken? f ≡ false
-  unfolding taken?
-  taken-count e = and-f (notSelf? f) _ (and-f (notTwice? f) _ (and-f (inBoth? f) _ (and-f (joined? f) _ (rw e))))
+-- every line stands in both lists, and every face has three sides
+abbrev pub soundFaces? : Flat → Bool
+soundFaces? f = inBoth? f && faces? f
 
-  pub taken-self : notSelf? f ≡ false → taken? f ≡ false
-  unfolding taken?
-  taken-self e = rw e
+-- the same tests in another order: the last four, then all six
+four-turned : (c e d x : Bool) → (c && (d && (e && x))) ≡ (e && (d && (c && x)))
+four-turned true true d x = refl
+four-turned true false true x = refl
+four-turned true false false x = refl
+four-turned false true true x = refl
+four-turned false true false x = refl
+four-turned false false d x = refl
 
-  pub taken-twice : notTwice? f ≡ false → taken? f ≡ false
-  unfolding taken?
-  taken-twice e = and-f (notSelf? f) _ (rw e)
+six-turned : (a b c d e x : Bool) → (a && (b && (c && (d && (e && x))))) ≡ (e && ((a && (b && d)) && (c && x)))
+six-turned true true c d e x = four-turned c e d x
+six-turned true false c d true x = refl
+six-turned true false c d false x = refl
+six-turned false b c d true x = refl
+six-turned false b c d false x = refl
 
-  pub taken-both : inBoth? f ≡ false → taken? f ≡ false
-  unfolding taken?
-  taken-both e = and-f (notSelf? f) _ (and-f (notTwice? f) _ (rw e))
+-- 15's tests in the program's order
+pub taken-parts : (f : Flat) → taken? f ≡ (counted? f && (soundLists? f && soundFaces? f))
+unfolding taken?
+taken-parts f = six-turned (notSelf? f) (notTwice? f) (inBoth? f) (joined? f) (counted? f) (faces? f)
 
-  pub taken-joined : joined? f ≡ false → taken? f ≡ false
-  unfolding taken?
-  taken-joined e = and-f (notSelf? f) _ (and-f (notTwice? f) _ (and-f (inBoth? f) _ (rw e)))
-
-  pub taken-faces : counted? f ≡ true → notSelf? f ≡ true → notTwice? f ≡ true → inBoth? f ≡ true → joined? f ≡ true → taken? f ≡ faces? f
-  unfolding taken?
-  taken-faces a b c d e = rw (b, c, d, e, a)
+-- a net whose places are not counted right is not taken
+pub taken-count : (f : Flat) → counted? f ≡ false → taken? f ≡ false
+taken-count f e = taken-parts f ∙ rw e

@@ -1,3 +1,6 @@
+// Whether a net is taken: what 15 asks, over the net in arrays.
+// `taken` and `place_of` ask for what `planar_reading` gives of a file that is well formed, with no more neighbours than
+// the arrays have room for.
 ghost use mathlib.Core.Path.{_≡_};
 ghost use mathlib.Core.Bool.{true};
 ghost use Prim.Native.Nat.{ℕ, _+_, _<_, _≤_};
@@ -5,8 +8,15 @@ ghost use lib.ListN.{length, getD};
 ghost use lib.Dec.{eqb};
 ghost use Rattle.planar_rules.specs.PlanarCode.{place, notSelf?, notTwice?, faces?, joined?, taken?, all};
 ghost use Rattle.planar_judging.specs.Arrays.{flatOf, Kept, Backs, Both, afterIn, Relabelled};
-ghost use Rattle.planar_judging.specs.Laws.{seekIn, Merged};
+ghost use Rattle.planar_judging.specs.Laws.{seekIn, Merged, soundLists?, soundFaces?};
 use words::broad;
+
+// Room for so many vertices, for where each list begins and the last ends, and for the neighbours in all lists.
+pub const VERTEX_ROOM: usize = 256;
+
+pub const START_ROOM: usize = VERTEX_ROOM + 1;
+
+pub const PLACE_ROOM: usize = 6 * VERTEX_ROOM;
 
 // A byte, to compute with.
 pub fn wide(x: u8) -> usize
@@ -16,7 +26,7 @@ pub fn wide(x: u8) -> usize
 }
 
 // The highest place from lo up to hi that names u, or none.
-fn find(nbr: &[u8; 1536], lo: usize, hi: usize, u: u8, none: usize) -> usize
+fn find(nbr: &[u8; PLACE_ROOM], lo: usize, hi: usize, u: u8, none: usize) -> usize
     requires { ⌜ hi ≤ 1536 ⌝ }
     ensures { λ r. ⌜ r ≡ seekIn (now (nbr .entry)) u none lo hi ⌝ }
 {
@@ -31,27 +41,46 @@ fn find(nbr: &[u8; 1536], lo: usize, hi: usize, u: u8, none: usize) -> usize
     none
 }
 
+// Where v's list begins.
+pub fn list_start(off: &[u16; START_ROOM], v: u8) -> usize
+    ensures { λ r. ⌜ r ≡ getD (now (off .entry)) v 0 ⌝ }
+{
+    broad(off[wide(v)])
+}
+
+// The place behind its last.
+pub fn list_end(off: &[u16; START_ROOM], v: u8) -> usize
+    ensures { λ r. ⌜ r ≡ getD (now (off .entry)) (v + 1) 0 ⌝ }
+{
+    broad(off[wide(v) + 1])
+}
+
 // The place of u in v's list, or d.
 pub fn place_of(
     n: u8,
     d: usize,
-    off: &[u16; 257],
-    own: &[u8; 1536],
-    nbr: &[u8; 1536],
+    off: &[u16; START_ROOM],
+    own: &[u8; PLACE_ROOM],
+    nbr: &[u8; PLACE_ROOM],
     v: u8,
     u: u8,
 ) -> usize
     requires { ⌜ Kept n d (now off) (now own) (now nbr) × (v < n) ⌝ }
     ensures { λ r. ⌜ r ≡ place (flatOf n d (now (off .entry)) (now (own .entry)) (now (nbr .entry))) v u ⌝ }
 {
-    let i = wide(v);
-    let lo = broad(off[i]);
-    let hi = broad(off[i + 1]);
+    let lo = list_start(off, v);
+    let hi = list_end(off, v);
     find(nbr, lo, hi, u, d)
 }
 
-// "no list names its own vertex"
-fn not_self(n: u8, d: usize, off: &[u16; 257], own: &[u8; 1536], nbr: &[u8; 1536]) -> bool
+// Whether "no list names its own vertex".
+fn not_self(
+    n: u8,
+    d: usize,
+    off: &[u16; START_ROOM],
+    own: &[u8; PLACE_ROOM],
+    nbr: &[u8; PLACE_ROOM],
+) -> bool
     requires { ⌜ Kept n d (now off) (now own) (now nbr) ⌝ }
     ensures { λ r. ⌜ r ≡ notSelf? (flatOf n d (now (off .entry)) (now (own .entry)) (now (nbr .entry))) ⌝ }
 {
@@ -67,8 +96,14 @@ fn not_self(n: u8, d: usize, off: &[u16; 257], own: &[u8; 1536], nbr: &[u8; 1536
     true
 }
 
-// "or one vertex twice"
-fn not_twice(n: u8, d: usize, off: &[u16; 257], own: &[u8; 1536], nbr: &[u8; 1536]) -> bool
+// Whether none names "one vertex twice".
+fn not_twice(
+    n: u8,
+    d: usize,
+    off: &[u16; START_ROOM],
+    own: &[u8; PLACE_ROOM],
+    nbr: &[u8; PLACE_ROOM],
+) -> bool
     requires { ⌜ Kept n d (now off) (now own) (now nbr) ⌝ }
     ensures { λ r. ⌜ r ≡ notTwice? (flatOf n d (now (off .entry)) (now (own .entry)) (now (nbr .entry))) ⌝ }
 {
@@ -85,14 +120,14 @@ fn not_twice(n: u8, d: usize, off: &[u16; 257], own: &[u8; 1536], nbr: &[u8; 153
     true
 }
 
-// "every line stands in both lists"; bk is where, when all do.
+// Whether "every line stands in both lists"; if so, bk has where.
 fn in_both(
     n: u8,
     d: usize,
-    off: &[u16; 257],
-    own: &[u8; 1536],
-    nbr: &[u8; 1536],
-    bk: &mut [u16; 1536],
+    off: &[u16; START_ROOM],
+    own: &[u8; PLACE_ROOM],
+    nbr: &[u8; PLACE_ROOM],
+    bk: &mut [u16; PLACE_ROOM],
 ) -> bool
     requires { ⌜ Kept n d (now off) (now own) (now nbr) × (length (now bk) ≡ 1536) ⌝ }
     ensures { λ r. ⌜ Both (flatOf n d (now (off .entry)) (now (own .entry)) (now (nbr .entry))) (now (bk .exit)) r ⌝ }
@@ -111,37 +146,42 @@ fn in_both(
     true
 }
 
-// The next place clockwise.
-pub fn next(off: &[u16; 257], own: &[u8; 1536], d: usize) -> usize
+// The next place clockwise: a list is read cyclically.
+pub fn after(off: &[u16; START_ROOM], own: &[u8; PLACE_ROOM], d: usize) -> usize
     requires { ⌜ d < 1536 ⌝ }
     ensures { λ r. ⌜ r ≡ afterIn (now (off .entry)) (now (own .entry)) d ⌝ }
 {
-    let v = wide(own[d]);
-    let hi = broad(off[v + 1]);
+    let v = own[d];
+    let hi = list_end(off, v);
     let e = d + 1;
     if e == hi {
-        return broad(off[v]);
+        return list_start(off, v);
     }
     e
 }
 
-// The next side of the face.
-fn side_of(off: &[u16; 257], own: &[u8; 1536], bk: &[u16; 1536], d: usize) -> usize
+// The next side of a face: over the line, and to the next place clockwise.
+fn side_of(
+    off: &[u16; START_ROOM],
+    own: &[u8; PLACE_ROOM],
+    bk: &[u16; PLACE_ROOM],
+    d: usize,
+) -> usize
     requires { ⌜ (d < 1536) × (getD (now bk) d 0 < 1536) ⌝ }
     ensures { λ r. ⌜ r ≡ afterIn (now (off .entry)) (now (own .entry)) (getD (now (bk .entry)) d 0) ⌝ }
 {
     let e = broad(bk[d]);
-    next(off, own, e)
+    after(off, own, e)
 }
 
-// "every face has three sides"
+// Whether "every face has three sides".
 fn faces(
     n: u8,
     d: usize,
-    off: &[u16; 257],
-    own: &[u8; 1536],
-    nbr: &[u8; 1536],
-    bk: &[u16; 1536],
+    off: &[u16; START_ROOM],
+    own: &[u8; PLACE_ROOM],
+    nbr: &[u8; PLACE_ROOM],
+    bk: &[u16; PLACE_ROOM],
 ) -> bool
     requires { ⌜ Kept n d (now off) (now own) (now nbr) × Backs (flatOf n d (now off) (now own) (now nbr)) (now bk) ⌝ }
     ensures { λ r. ⌜ r ≡ faces? (flatOf n d (now (off .entry)) (now (own .entry)) (now (nbr .entry))) ⌝ }
@@ -159,8 +199,8 @@ fn faces(
     true
 }
 
-// All that have label a get label b.
-fn relabel(lab: &mut [u8; 256], n: u8, a: u8, b: u8)
+// Gives label b to all that have label a.
+fn relabel(lab: &mut [u8; VERTEX_ROOM], n: u8, a: u8, b: u8)
     requires { ⌜ length (now lab) ≡ 256 ⌝ }
     ensures { λ _. ⌜ Relabelled n a b (now (lab .entry)) (now (lab .exit)) ⌝ }
 {
@@ -175,8 +215,8 @@ fn relabel(lab: &mut [u8; 256], n: u8, a: u8, b: u8)
     }
 }
 
-// At first each vertex has its own label.
-fn label(lab: &mut [u8; 256], n: u8)
+// Gives each vertex its own label, as before the first line.
+fn label(lab: &mut [u8; VERTEX_ROOM], n: u8)
     requires { ⌜ length (now lab) ≡ 256 ⌝ }
     ensures { λ _. ⌜ (length (now (lab .exit)) ≡ 256) × ((x : ℕ) → x < n → getD (now (lab .exit)) x 0 ≡ x) ⌝ }
 {
@@ -187,8 +227,8 @@ fn label(lab: &mut [u8; 256], n: u8)
     }
 }
 
-// The line from v to u.
-fn join(lab: &mut [u8; 256], n: u8, v: u8, u: u8)
+// Gives all that have v's label that of u, for a line from v to u.
+fn join(lab: &mut [u8; VERTEX_ROOM], n: u8, v: u8, u: u8)
     requires { ⌜ length (now lab) ≡ 256 ⌝ }
     ensures { λ _. ⌜ Merged n v u (now (lab .entry)) (now (lab .exit)) ⌝ }
 {
@@ -202,8 +242,8 @@ fn join(lab: &mut [u8; 256], n: u8, v: u8, u: u8)
     relabel(lab, n, a, b);
 }
 
-// Whether the first n have one label.
-fn one_label(lab: &[u8; 256], n: u8) -> bool
+// Whether all n vertices have one label.
+fn one_label(lab: &[u8; VERTEX_ROOM], n: u8) -> bool
     requires { ⌜ length (now lab) ≡ 256 ⌝ }
     ensures { λ r. ⌜ r ≡ all (λ x. eqb (getD (now (lab .entry)) x 0) (getD (now (lab .entry)) 0 0)) n ⌝ }
 {
@@ -219,12 +259,18 @@ fn one_label(lab: &[u8; 256], n: u8) -> bool
     true
 }
 
-// "all is connected"
-fn joined(n: u8, d: usize, off: &[u16; 257], own: &[u8; 1536], nbr: &[u8; 1536]) -> bool
+// Whether "all is connected".
+fn joined(
+    n: u8,
+    d: usize,
+    off: &[u16; START_ROOM],
+    own: &[u8; PLACE_ROOM],
+    nbr: &[u8; PLACE_ROOM],
+) -> bool
     requires { ⌜ Kept n d (now off) (now own) (now nbr) ⌝ }
     ensures { λ r. ⌜ r ≡ joined? (flatOf n d (now (off .entry)) (now (own .entry)) (now (nbr .entry))) ⌝ }
 {
-    let mut lab = [0; 256];
+    let mut lab = [0; VERTEX_ROOM];
     label(&mut lab, n);
     let mut i = 0;
     while i < d {
@@ -236,28 +282,62 @@ fn joined(n: u8, d: usize, off: &[u16; 257], own: &[u8; 1536], nbr: &[u8; 1536])
     one_label(&lab, n)
 }
 
-// 15
-pub fn taken(n: u8, d: usize, off: &[u16; 257], own: &[u8; 1536], nbr: &[u8; 1536]) -> bool
+// Whether no list names its own vertex or one vertex twice, and all is connected.
+fn sound_lists(
+    n: u8,
+    d: usize,
+    off: &[u16; START_ROOM],
+    own: &[u8; PLACE_ROOM],
+    nbr: &[u8; PLACE_ROOM],
+) -> bool
     requires { ⌜ Kept n d (now off) (now own) (now nbr) ⌝ }
-    ensures { λ r. ⌜ r ≡ taken? (flatOf n d (now (off .entry)) (now (own .entry)) (now (nbr .entry))) ⌝ }
+    ensures { λ r. ⌜ r ≡ soundLists? (flatOf n d (now (off .entry)) (now (own .entry)) (now (nbr .entry))) ⌝ }
 {
-    let places = d + 12;
-    let twice = 6 * wide(n);
-    if places != twice {
-        return false;
-    }
     if !not_self(n, d, off, own, nbr) {
         return false;
     }
     if !not_twice(n, d, off, own, nbr) {
         return false;
     }
-    if !joined(n, d, off, own, nbr) {
-        return false;
-    }
-    let mut bk = [0; 1536];
+    joined(n, d, off, own, nbr)
+}
+
+// Whether every line stands in both lists, and every face has three sides.
+fn sound_faces(
+    n: u8,
+    d: usize,
+    off: &[u16; START_ROOM],
+    own: &[u8; PLACE_ROOM],
+    nbr: &[u8; PLACE_ROOM],
+) -> bool
+    requires { ⌜ Kept n d (now off) (now own) (now nbr) ⌝ }
+    ensures { λ r. ⌜ r ≡ soundFaces? (flatOf n d (now (off .entry)) (now (own .entry)) (now (nbr .entry))) ⌝ }
+{
+    let mut bk = [0; PLACE_ROOM];
     if !in_both(n, d, off, own, nbr, &mut bk) {
         return false;
     }
     faces(n, d, off, own, nbr, &bk)
+}
+
+// Whether the net is taken: what 15 asks, with the count first, since it is the cheapest.
+pub fn taken(
+    n: u8,
+    d: usize,
+    off: &[u16; START_ROOM],
+    own: &[u8; PLACE_ROOM],
+    nbr: &[u8; PLACE_ROOM],
+) -> bool
+    requires { ⌜ Kept n d (now off) (now own) (now nbr) ⌝ }
+    ensures { λ r. ⌜ r ≡ taken? (flatOf n d (now (off .entry)) (now (own .entry)) (now (nbr .entry))) ⌝ }
+{
+    let places = d + 12;
+    let wanted = 6 * wide(n);
+    if places != wanted {
+        return false;
+    }
+    if !sound_lists(n, d, off, own, nbr) {
+        return false;
+    }
+    sound_faces(n, d, off, own, nbr)
 }

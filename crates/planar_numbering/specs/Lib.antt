@@ -1,5 +1,6 @@
 pub mod Points
+pub mod Gathering
 pub mod Boundary
-pub mod Step
 pub mod Top
+pub mod Next
 pub mod Numbered

@@ -1,30 +1,42 @@
+// The numbering: the points of a net that is taken, with their vertices and entries, counted down from point n.
+// For the import: `number` asks for a net that 15 doesn't refuse, and arrays that have room for 255 points.
 ghost use mathlib.Core.Path.{_≡_};
 ghost use Prim.Native.Nat.{ℕ, _+_, _-_, _<_, _≤_};
 ghost use lib.ListN.{length, getD};
-ghost use Rattle.planar_numbering.specs.Boundary.{Walk, Walked, newAt};
-ghost use Rattle.planar_numbering.specs.Step.{Ready, Stepped};
-ghost use Rattle.planar_numbering.specs.Top.{Begin, Begun};
-ghost use Rattle.planar_numbering.specs.Numbered.{Done, AllNumbered};
-ghost use Rattle.planar_judging.specs.Arrays.{flatOf};
+ghost use mathlib.Core.List.{[]};
+ghost use Rattle.planar_rules.specs.PlanarCode.{place, run, gather};
+ghost use Rattle.planar_judging.specs.Arrays.{flatOf, Kept};
+ghost use Rattle.planar_numbering.specs.Gathering.{Gatherable, Gathered};
+ghost use Rattle.planar_numbering.specs.Boundary.{boundaryVertex};
+ghost use Rattle.planar_numbering.specs.Top.{Begin, Ready, TopNumbered};
+ghost use Rattle.planar_numbering.specs.Next.{NextNumbered};
+ghost use Rattle.planar_numbering.specs.Numbered.{CountedDown, AllNumbered};
 use planar_choosing::choose;
-use planar_judging::next;
+use planar_judging::PLACE_ROOM;
+use planar_judging::START_ROOM;
+use planar_judging::VERTEX_ROOM;
+use planar_judging::after;
 use planar_judging::place_of;
 use planar_judging::wide;
 
-// The neighbours from place d0 on, clockwise, up to left, into ent from s down: they stand there from left to right.
-fn walk(
+// Room for the entries of all points.
+pub const ENTRY_ROOM: usize = 3 * VERTEX_ROOM;
+
+// Puts the neighbours from place d0 on, clockwise, up to left, into ent from s down: they stand there from left to right.
+// Returns where they begin.
+fn gather_run(
     n: u8,
     d: usize,
-    off: &[u16; 257],
-    own: &[u8; 1536],
-    nbr: &[u8; 1536],
+    off: &[u16; START_ROOM],
+    own: &[u8; PLACE_ROOM],
+    nbr: &[u8; PLACE_ROOM],
     d0: usize,
     left: u8,
-    ent: &mut [u8; 768],
+    ent: &mut [u8; ENTRY_ROOM],
     s: usize,
 ) -> usize
-    requires { ⌜ Walk (flatOf n d (now off) (now own) (now nbr)) left d0 s × (length (now ent) ≡ 768) ⌝ }
-    ensures { λ r. ⌜ Walked (flatOf n d (now (off .entry)) (now (own .entry)) (now (nbr .entry))) left d0 s (now (ent .entry)) (now (ent .exit)) r ⌝ }
+    requires { ⌜ Gatherable (flatOf n d (now off) (now own) (now nbr)) left d0 s × (length (now ent) ≡ 768) ⌝ }
+    ensures { λ r. ⌜ Gathered (gather (flatOf n d (now (off .entry)) (now (own .entry)) (now (nbr .entry))) left d d0 []) s (now (ent .entry)) (now (ent .exit)) r ⌝ }
 {
     let mut at = d0;
     let mut e = s;
@@ -35,14 +47,41 @@ fn walk(
         if u == left {
             return e;
         }
-        at = next(off, own, at);
+        at = after(off, own, at);
     }
 }
 
-// The x-th vertex of the new boundary: len entries from s on in place of three vertices from a on.
-fn new_at(b: &[u8; 256], ent: &[u8; 768], a: usize, s: usize, len: usize, x: usize) -> u8
+// Puts the entries of a point there: the neighbours of its vertex v from right, clockwise, to left.
+fn gather_entries(
+    n: u8,
+    d: usize,
+    off: &[u16; START_ROOM],
+    own: &[u8; PLACE_ROOM],
+    nbr: &[u8; PLACE_ROOM],
+    v: u8,
+    left: u8,
+    right: u8,
+    ent: &mut [u8; ENTRY_ROOM],
+    s: usize,
+) -> usize
+    requires { ⌜ Kept n d (now off) (now own) (now nbr) × (v < n) × Gatherable (flatOf n d (now off) (now own) (now nbr)) left (place (flatOf n d (now off) (now own) (now nbr)) v right) s × (length (now ent) ≡ 768) ⌝ }
+    ensures { λ r. ⌜ Gathered (run (flatOf n d (now (off .entry)) (now (own .entry)) (now (nbr .entry))) v left right) s (now (ent .entry)) (now (ent .exit)) r ⌝ }
+{
+    let d0 = place_of(n, d, off, own, nbr, v, right);
+    gather_run(n, d, off, own, nbr, d0, left, ent, s)
+}
+
+// The x-th vertex of the new boundary: len entries, from ent's place s on, stand in place of b's three from the a-th on.
+fn boundary_vertex(
+    b: &[u8; VERTEX_ROOM],
+    ent: &[u8; ENTRY_ROOM],
+    a: usize,
+    s: usize,
+    len: usize,
+    x: usize,
+) -> u8
     requires { ⌜ (a < 256) × (s + len ≤ 768) × (x + 3 < 256 + len) ⌝ }
-    ensures { λ r. ⌜ r ≡ newAt (now (b .entry)) (now (ent .entry)) a s len x ⌝ }
+    ensures { λ r. ⌜ r ≡ boundaryVertex (now (b .entry)) (now (ent .entry)) a s len x ⌝ }
 {
     if x < a {
         return b[x];
@@ -54,61 +93,62 @@ fn new_at(b: &[u8; 256], ent: &[u8; 768], a: usize, s: usize, len: usize, x: usi
     b[x + 3 - len]
 }
 
-fn splice(
-    b: &[u8; 256],
+// Puts the whole new boundary, m + len - 3 vertices, into c.
+fn put_boundary(
+    b: &[u8; VERTEX_ROOM],
     m: usize,
-    ent: &[u8; 768],
+    ent: &[u8; ENTRY_ROOM],
     a: usize,
     s: usize,
     len: usize,
-    c: &mut [u8; 256],
+    c: &mut [u8; VERTEX_ROOM],
 )
     requires { ⌜ (m ≤ 256) × (a + 3 ≤ m) × (s + len ≤ 768) × (2 ≤ len) × (m + len ≤ 258) × (length (now c) ≡ 256) ⌝ }
-    ensures { λ _. ⌜ (length (now (c .exit)) ≡ 256) × ((x : ℕ) → x < m + len - 3 → getD (now (c .exit)) x 0 ≡ newAt (now (b .entry)) (now (ent .entry)) a s len x) ⌝ }
+    ensures { λ _. ⌜ (length (now (c .exit)) ≡ 256) × ((x : ℕ) → x < m + len - 3 → getD (now (c .exit)) x 0 ≡ boundaryVertex (now (b .entry)) (now (ent .entry)) a s len x) ⌝ }
 {
     let last = m + len - 3;
     let mut x = 0;
     while x < last {
-        c[x] = new_at(b, ent, a, s, len, x);
+        c[x] = boundary_vertex(b, ent, a, s, len, x);
         x += 1;
     }
 }
 
-// The next point: its vertex into ver, the number of its entries into ln, its entries into ent before s, and the boundary without it into c.
-fn step(
+// Numbers the next point, the one with index k: its vertex goes into ver, the number of its entries into ln, its entries
+// into ent before s, and the boundary without it into c. Returns how many entries it has.
+fn number_next(
     n: u8,
     d: usize,
-    off: &[u16; 257],
-    own: &[u8; 1536],
-    nbr: &[u8; 1536],
-    b: &[u8; 256],
+    off: &[u16; START_ROOM],
+    own: &[u8; PLACE_ROOM],
+    nbr: &[u8; PLACE_ROOM],
+    b: &[u8; VERTEX_ROOM],
     m: usize,
     k: usize,
-    ver: &mut [u8; 256],
-    ln: &mut [u8; 256],
-    ent: &mut [u8; 768],
+    ver: &mut [u8; VERTEX_ROOM],
+    ln: &mut [u8; VERTEX_ROOM],
+    ent: &mut [u8; ENTRY_ROOM],
     s: usize,
-    c: &mut [u8; 256],
+    c: &mut [u8; VERTEX_ROOM],
 ) -> usize
     requires { ⌜ Ready n d (now off) (now own) (now nbr) (now b) m k (now ver) (now ln) (now ent) s × (2 ≤ k) × (length (now c) ≡ 256) ⌝ }
-    ensures { λ r. ⌜ Stepped (flatOf n d (now (off .entry)) (now (own .entry)) (now (nbr .entry))) (now (b .entry)) m k (now (ver .entry)) (now (ln .entry)) (now (ent .entry)) s (now (ver .exit)) (now (ln .exit)) (now (ent .exit)) (now (c .exit)) r ⌝ }
+    ensures { λ r. ⌜ NextNumbered (flatOf n d (now (off .entry)) (now (own .entry)) (now (nbr .entry))) (now (b .entry)) m k (now (ver .entry)) (now (ln .entry)) (now (ent .entry)) s (now (ver .exit)) (now (ln .exit)) (now (ent .exit)) (now (c .exit)) r ⌝ }
 {
     let chosen = choose(n, off, nbr, b, m);
     let v = chosen.v;
     let q = chosen.q;
     let left = b[q - 2];
     let right = b[q];
-    let d0 = place_of(n, d, off, own, nbr, v, right);
-    let e = walk(n, d, off, own, nbr, d0, left, ent, s);
+    let e = gather_entries(n, d, off, own, nbr, v, left, right, ent, s);
     let len = s - e;
     ver[k] = v;
     ln[k] = len as u8;
-    splice(b, m, ent, q - 2, e, len, c);
+    put_boundary(b, m, ent, q - 2, e, len, c);
     len
 }
 
-// len entries from s on, at the start of b.
-fn copy(ent: &[u8; 768], s: usize, len: usize, b: &mut [u8; 256])
+// Puts len entries, from s on, at the start of b.
+fn put_first_boundary(ent: &[u8; ENTRY_ROOM], s: usize, len: usize, b: &mut [u8; VERTEX_ROOM])
     requires { ⌜ (s + len ≤ 768) × (len ≤ 256) × (length (now b) ≡ 256) ⌝ }
     ensures { λ _. ⌜ (length (now (b .exit)) ≡ 256) × ((x : ℕ) → x < len → getD (now (b .exit)) x 0 ≡ getD (now (ent .entry)) (s + x) 0) ⌝ }
 {
@@ -119,59 +159,57 @@ fn copy(ent: &[u8; 768], s: usize, len: usize, b: &mut [u8; 256])
     }
 }
 
-// Point n: its list, backwards from vertex 1, is the first boundary.
-fn begin(
+// Numbers point n, whose entries, from vertex 1 to its first listed neighbour, are the first boundary.
+// Returns where they begin.
+fn number_top(
     n: u8,
     d: usize,
-    off: &[u16; 257],
-    own: &[u8; 1536],
-    nbr: &[u8; 1536],
-    ver: &mut [u8; 256],
-    ln: &mut [u8; 256],
-    ent: &mut [u8; 768],
-    b: &mut [u8; 256],
+    off: &[u16; START_ROOM],
+    own: &[u8; PLACE_ROOM],
+    nbr: &[u8; PLACE_ROOM],
+    ver: &mut [u8; VERTEX_ROOM],
+    ln: &mut [u8; VERTEX_ROOM],
+    ent: &mut [u8; ENTRY_ROOM],
+    b: &mut [u8; VERTEX_ROOM],
 ) -> usize
     requires { ⌜ Begin n d (now off) (now own) (now nbr) (now ver) (now ln) (now ent) (now b) ⌝ }
-    ensures { λ r. ⌜ Begun n d (now (off .entry)) (now (own .entry)) (now (nbr .entry)) (now (b .exit)) (now (ver .exit)) (now (ln .exit)) (now (ent .exit)) r ⌝ }
+    ensures { λ r. ⌜ TopNumbered n d (now (off .entry)) (now (own .entry)) (now (nbr .entry)) (now (b .exit)) (now (ver .exit)) (now (ln .exit)) (now (ent .exit)) r ⌝ }
 {
     let right = nbr[0];
-    let e = next(off, own, 0);
+    let e = after(off, own, 0);
     let v = nbr[e];
-    let d0 = place_of(n, d, off, own, nbr, v, right);
-    let s = walk(n, d, off, own, nbr, d0, 0, ent, 768);
-    let len = 768 - s;
+    let s = gather_entries(n, d, off, own, nbr, v, 0, right, ent, ENTRY_ROOM);
+    let len = ENTRY_ROOM - s;
     let k = wide(n) - 1;
     ver[k] = v;
     ln[k] = len as u8;
-    copy(ent, s, len, b);
+    put_first_boundary(ent, s, len, b);
     s
 }
 
-// The points below, down to point 3; the result is where the entries begin.
-fn descend(
+// Numbers points n - 1 to 3, in this order, where point n is numbered. Returns where the entries begin.
+fn count_down(
     n: u8,
     d: usize,
-    off: &[u16; 257],
-    own: &[u8; 1536],
-    nbr: &[u8; 1536],
-    b0: [u8; 256],
-    m0: usize,
-    k0: usize,
-    ver: &mut [u8; 256],
-    ln: &mut [u8; 256],
-    ent: &mut [u8; 768],
+    off: &[u16; START_ROOM],
+    own: &[u8; PLACE_ROOM],
+    nbr: &[u8; PLACE_ROOM],
+    b0: [u8; VERTEX_ROOM],
+    ver: &mut [u8; VERTEX_ROOM],
+    ln: &mut [u8; VERTEX_ROOM],
+    ent: &mut [u8; ENTRY_ROOM],
     s0: usize,
 ) -> usize
-    requires { ⌜ Ready n d (now off) (now own) (now nbr) b0 m0 k0 (now ver) (now ln) (now ent) s0 ⌝ }
-    ensures { λ r. ⌜ Done (flatOf n d (now (off .entry)) (now (own .entry)) (now (nbr .entry))) b0 m0 k0 (now (ver .entry)) (now (ln .entry)) (now (ent .entry)) s0 (now (ver .exit)) (now (ln .exit)) (now (ent .exit)) r ⌝ }
+    requires { ⌜ TopNumbered n d (now off) (now own) (now nbr) b0 (now ver) (now ln) (now ent) s0 ⌝ }
+    ensures { λ r. ⌜ CountedDown (flatOf n d (now (off .entry)) (now (own .entry)) (now (nbr .entry))) (now (ver .exit)) (now (ln .exit)) (now (ent .exit)) r ⌝ }
 {
     let mut b = b0;
-    let mut m = m0;
-    let mut k = k0;
+    let mut m = ENTRY_ROOM - s0;
+    let mut k = wide(n) - 2;
     let mut s = s0;
     while 2 <= k {
-        let mut c = [0; 256];
-        let len = step(n, d, off, own, nbr, &b, m, k, ver, ln, ent, s, &mut c);
+        let mut c = [0; VERTEX_ROOM];
+        let len = number_next(n, d, off, own, nbr, &b, m, k, ver, ln, ent, s, &mut c);
         b = c;
         m = m + len - 3;
         s -= len;
@@ -180,25 +218,24 @@ fn descend(
     s
 }
 
-// All points: vertex i of ver and ln[i] entries for point i + 1, the entries in ent from the result on.
+// Numbers all points: ver[i] is the vertex of point i + 1 and ln[i] the number of its entries; the entries of all, from
+// point 1 on, stand in ent from the result on.
 pub fn number(
     n: u8,
     d: usize,
-    off: &[u16; 257],
-    own: &[u8; 1536],
-    nbr: &[u8; 1536],
-    ver: &mut [u8; 256],
-    ln: &mut [u8; 256],
-    ent: &mut [u8; 768],
+    off: &[u16; START_ROOM],
+    own: &[u8; PLACE_ROOM],
+    nbr: &[u8; PLACE_ROOM],
+    ver: &mut [u8; VERTEX_ROOM],
+    ln: &mut [u8; VERTEX_ROOM],
+    ent: &mut [u8; ENTRY_ROOM],
 ) -> usize
     requires { ⌜ Begin n d (now off) (now own) (now nbr) (now ver) (now ln) (now ent) (now ver) ⌝ }
     ensures { λ r. ⌜ AllNumbered (flatOf n d (now (off .entry)) (now (own .entry)) (now (nbr .entry))) (now (ver .exit)) (now (ln .exit)) (now (ent .exit)) r ⌝ }
 {
-    let mut b = [0; 256];
-    let s = begin(n, d, off, own, nbr, ver, ln, ent, &mut b);
-    let m = 768 - s;
-    let k = wide(n) - 2;
-    let e = descend(n, d, off, own, nbr, b, m, k, ver, ln, ent, s);
+    let mut b = [0; VERTEX_ROOM];
+    let s = number_top(n, d, off, own, nbr, ver, ln, ent, &mut b);
+    let e = count_down(n, d, off, own, nbr, b, ver, ln, ent, s);
     ver[0] = 0;
     ver[1] = nbr[0];
     ln[0] = 0;

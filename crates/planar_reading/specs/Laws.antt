@@ -2,7 +2,7 @@
 use Prim.Native.Nat.{ℕ, zero, suc, _+_, _-_, _<_, _≤_}
 use mathlib.Core.Path.{_≡_, refl, ap, sym, _∙_}
 use mathlib.Core.List.{List, [], _∷_, _++_, append-assoc, append-nil, tail}
-use mathlib.Core.Bool.{Bool, true, false, _&&_}
+use mathlib.Core.Bool.{true, false, false≢true}
 use native.Mathlib.Omega.{arith}
 use native.Mathlib.Numerals.{add-one}
 use native.Mathlib.Decide.{ℕ-discrete, decLe}
@@ -12,22 +12,27 @@ use lib.Dec.{eqb, leb}
 use borrow.Author.Tests.{eq-eqb, ne-eqb, le-leb, lt-leb}
 use Rattle.planar_rules.specs.PlanarCode.{begins?, opening, nOf, body, lists?, formed?, neighbours, owners, ends}
 use Rattle.planar_sphere.specs.Count.{clash}
-use Rattle.rules.specs.Bools.{both}
+use Rattle.rules.specs.Bools.{both, is-false}
 
 -- the i-th byte and the rest
 pub next-byte : (bs : List ℕ) (i : ℕ) → i < length bs → drop i bs ≡ getD bs i 0 ∷ drop (i + 1) bs
 next-byte bs i l = rw (add-one i) (drop-cons bs i 0 l)
 
+-- behind the last byte there is nothing
 pub no-byte : (bs : List ℕ) (i : ℕ) → length bs ≤ i → drop i bs ≡ []
 no-byte bs i l = drop-of-length-le bs {i = i} l
 
 -- ---- the opening
 
-pub begins-same : (as′ bs : List ℕ) (i : ℕ) → i < length as′ → i < length bs → getD as′ i 0 ≡ getD bs i 0 → begins? (drop i as′) (drop i bs) ≡ begins? (drop (i + 1) as′) (drop (i + 1) bs)
+-- character i is the same, is another, or there is none
+pub begins-same :
+    (as′ bs : List ℕ) (i : ℕ) → i < length as′ → i < length bs → getD as′ i 0 ≡ getD bs i 0 →
+    begins? (drop i as′) (drop i bs) ≡ begins? (drop (i + 1) as′) (drop (i + 1) bs)
 unfolding begins?
 begins-same as′ bs i l k e = rw (next-byte as′ i l, next-byte bs i k, eq-eqb _ _ e)
 
-pub begins-not : (as′ bs : List ℕ) (i : ℕ) → i < length as′ → i < length bs → (getD as′ i 0 ≡ getD bs i 0 → ⊥) → begins? (drop i as′) (drop i bs) ≡ false
+pub begins-not :
+    (as′ bs : List ℕ) (i : ℕ) → i < length as′ → i < length bs → (getD as′ i 0 ≡ getD bs i 0 → ⊥) → begins? (drop i as′) (drop i bs) ≡ false
 unfolding begins?
 begins-not as′ bs i l k e = rw (next-byte as′ i l, next-byte bs i k, ne-eqb _ _ e)
 
@@ -35,8 +40,9 @@ pub begins-end : (as′ bs : List ℕ) (i : ℕ) → length as′ ≤ i → begi
 unfolding begins?
 begins-end as′ bs i l = rw (no-byte as′ i l)
 
--- ---- the lists
+-- ---- the lists, with v of them to come
 
+-- a byte that is 0, a neighbour, or above n
 lists-0 : (n v : ℕ) (l : List ℕ) → lists? n (suc v) (0 ∷ l) ≡ lists? n v l
 unfolding lists?
 lists-0 n v l = refl
@@ -52,6 +58,7 @@ lists-2 n v zero l p = absurd (omega arith)
 lists-2 n v (suc c) l p = rw (lt-leb (suc c) n p)
 
 module _ (n : ℕ) (bs : List ℕ) (i : ℕ) (il : i < length bs) where
+  -- byte i where none is to come; where it ends a list, names a neighbour, or names none
   pub lists-over : lists? n 0 (drop i bs) ≡ false
   unfolding lists?
   lists-over = rw (next-byte bs i il)
@@ -68,6 +75,7 @@ module _ (n : ℕ) (bs : List ℕ) (i : ℕ) (il : i < length bs) where
   lists-high zero p e = absurd (omega arith)
   lists-high (suc v) p e = rw (next-byte bs i il) (lists-2 n v (getD bs i 0) (drop (i + 1) bs) e)
 
+-- behind the last byte none may be to come
 pub lists-done : (n v : ℕ) (bs : List ℕ) (i : ℕ) → length bs ≤ i → lists? n v (drop i bs) ≡ eqb v 0
 unfolding lists?
 lists-done n zero bs i l = rw (no-byte bs i l)
@@ -75,27 +83,27 @@ lists-done n (suc v) bs i l = rw (no-byte bs i l, ne-eqb (suc v) 0 (λ e. omega 
 
 -- ---- 14
 
-and-false : (a : Bool) → (a && false) ≡ false
-and-false true = refl
-and-false false = refl
-
+-- shorter than its first 16 bytes: no n, or one of 0
 pub formed-short : (bs : List ℕ) → length bs < 16 → formed? bs ≡ false
 unfolding formed?
-formed-short bs l = rw (List·getD-eq-default bs 0 {n = 15} (omega arith)) (and-false (begins? opening bs))
+formed-short bs l = rw (List·getD-eq-default bs 0 {n = 15} (omega arith)) (is-false _ (λ t. false≢true (both (begins? opening bs) false t .1)))
 
+-- the opening is another
 pub formed-not : (bs : List ℕ) → begins? opening bs ≡ false → formed? bs ≡ false
 unfolding formed?
 formed-not bs e = rw e
 
+-- n is too small
 pub formed-small : (bs : List ℕ) → begins? opening bs ≡ true → nOf bs < 4 → formed? bs ≡ false
 unfolding formed?
 formed-small bs e l = rw (e, lt-leb 4 (nOf bs) l)
 
+-- the lists decide
 pub formed-lists : (bs : List ℕ) → begins? opening bs ≡ true → 4 ≤ nOf bs → nOf bs ≤ 255 → formed? bs ≡ lists? (nOf bs) (nOf bs) (body bs)
 unfolding formed?
 formed-lists bs e l h = rw (e, le-leb 4 (nOf bs) l, le-leb (nOf bs) 255 h)
 
--- ---- the places
+-- ---- the places: neighbours, owners and ends by the byte that comes, 0 or a neighbour
 
 nbr-1 : (c : ℕ) (l : List ℕ) → 0 < c → neighbours (c ∷ l) ≡ (c - 1) ∷ neighbours l
 unfolding neighbours
@@ -135,6 +143,7 @@ module _ (bs : List ℕ) (i : ℕ) (il : i < length bs) where
   end-more d p = ap (ends d) (next-byte bs i il) ∙ end-1 d (getD bs i 0) (drop (i + 1) bs) p
 
 module _ (bs : List ℕ) (i : ℕ) (il : length bs ≤ i) where
+  -- behind the last byte there are none
   pub nbr-done : neighbours (drop i bs) ≡ []
   unfolding neighbours
   nbr-done = rw (no-byte bs i il)
@@ -149,6 +158,7 @@ module _ (bs : List ℕ) (i : ℕ) (il : length bs ≤ i) where
 
 -- ---- filling an array from its start
 
+-- what is the same from d on is the same from d + 1 on
 tail-same : (a b : List ℕ) (d : ℕ) → d < length a → d < length b → drop d a ≡ drop d b → drop (suc d) a ≡ drop (suc d) b
 tail-same a b d p q e = ap tail (sym (drop-cons a d 0 p) ∙ e ∙ drop-cons b d 0 q)
 
@@ -163,41 +173,51 @@ pub record Filling (X R old new : List ℕ) (d : ℕ) : Type 0 where
 abbrev pub Filled : List ℕ → List ℕ → List ℕ → Type 0
 Filled X old new = new ≡ X ++ drop (length X) old
 
+-- nothing is filled in yet
 pub fill-begin : (X old : List ℕ) → Filling X X old old 0
 fill-begin X old = record { so-far = refl; rest = refl; same = refl; within = omega arith }
 
+-- where something is to come there is a place for it
 pub fill-one : {X R R′ old new : List ℕ} {d x : ℕ} → Filling X R old new d → R ≡ x ∷ R′ → length X ≤ length old → d < length old
-fill-one {X} {R} {R′} {old} {new} {d} {x} f e l =
-    omega (arith, ap length (f .so-far), length-append (take d new) R, ap length e, length-take-le d new (omega (arith, f .same, f .within)), f .same, f .within)
+fill-one {R = R} {new = new} {d = d} f e l =
+    let size : length (take d new) ≡ d = length-take-le d new (omega (arith, f .same, f .within)) in
+    omega (arith, ap length (f .so-far), length-append (take d new) R, ap length e)
 
-pub fill-next : {X R R′ old new : List ℕ} {d x : ℕ} → Filling X R old new d → R ≡ x ∷ R′ → length X ≤ length old → Filling X R′ old (set new d x) (d + 1)
+-- the next one is filled in
+pub fill-next :
+    {X R R′ old new : List ℕ} {d x : ℕ} → Filling X R old new d → R ≡ x ∷ R′ → length X ≤ length old → Filling X R′ old (set new d x) (d + 1)
 fill-next {X} {R} {R′} {old} {new} {d} {x} f e l =
     let r = fill-one f e l in
     let r′ : d < length new = omega (arith, f .same) in
     record {
       so-far =
-          f .so-far ∙ ap (λ k. take d new ++ k) e ∙ sym (append-assoc (take d new) (x ∷ []) R′) ∙ ap (λ k. k ++ R′) (sym (take-suc-set new d x r′)) ∙
+          f .so-far ∙ ap (λ k. take d new ++ k) e ∙ sym (append-assoc (take d new) (x ∷ []) R′) ∙
+          ap (λ k. k ++ R′) (sym (take-suc-set new d x r′)) ∙
           ap (λ k. take k (set new d x) ++ R′) (sym (add-one d));
-      rest =
-          rw (add-one d) (drop-set-lt (suc d) new d x (omega arith) ∙ tail-same new old d r′ r (f .rest));
+      rest = rw (add-one d) (drop-set-lt (suc d) new d x (omega arith) ∙ tail-same new old d r′ r (f .rest));
       same = length-set new d x ∙ f .same;
       within = omega arith;
     }
 
+-- what is to come, told otherwise
 pub fill-same : {X R R′ old new : List ℕ} {d : ℕ} → Filling X R old new d → R ≡ R′ → Filling X R′ old new d
-fill-same {new = new} {d = d} f e = record { so-far = f .so-far ∙ ap (λ k. take d new ++ k) e; rest = f .rest; same = f .same; within = f .within }
+fill-same {new = new} {d = d} f e =
+    record { so-far = f .so-far ∙ ap (λ k. take d new ++ k) e; rest = f .rest; same = f .same; within = f .within }
 
+-- nothing is to come
 pub fill-end : {X R old new : List ℕ} {d : ℕ} → Filling X R old new d → R ≡ [] → Filled X old new
 fill-end {X} {R} {old} {new} {d} f e =
     let q : X ≡ take d new = f .so-far ∙ ap (λ k. take d new ++ k) e ∙ append-nil (take d new) in
     let k : length X ≡ d = ap length q ∙ length-take-le d new (omega (arith, f .same, f .within)) in
     sym (take-append-drop d new) ∙ ap (λ t. t ++ drop d new) (sym q) ∙ ap (λ t. X ++ t) (f .rest) ∙ ap (λ m. X ++ drop m old) (sym k)
 
--- ---- a file that is well formed
+-- ---- a file whose lists are well formed, k of them from byte i on
 
 module _ (n : ℕ) (bs : List ℕ) (i : ℕ) (il : i < length bs) (k : ℕ) (ok : lists? n k (drop i bs) ≡ true) where
+  -- at byte i lists are still to come, and what comes behind it is well formed
   pub left-some : 0 < k
-  left-some = elim (ℕ-discrete k 0) [ no ne ↦ omega (arith, ne) | yes e ↦ clash ok (ap (λ k. lists? n k (drop i bs)) e ∙ lists-over n bs i il) ]
+  left-some =
+      elim (ℕ-discrete k 0) [ no ne ↦ omega (arith, ne) | yes e ↦ clash ok (ap (λ k. lists? n k (drop i bs)) e ∙ lists-over n bs i il) ]
 
   pub left-zero : getD bs i 0 ≡ 0 → lists? n (k - 1) (drop (i + 1) bs) ≡ true
   left-zero e = sym (lists-zero n bs i il k left-some e) ∙ ok
@@ -209,6 +229,7 @@ module _ (n : ℕ) (bs : List ℕ) (i : ℕ) (il : i < length bs) (k : ℕ) (ok 
         | no l ↦ clash ok (lists-high n bs i il k left-some (omega (arith, l)))
       ]
 
+-- each list has an end
 pub ends-length : (n k d : ℕ) (bs : List ℕ) → lists? n k bs ≡ true → length (ends d bs) ≡ k
 unfolding lists? ends
 ends-length n zero d [] t = refl
@@ -217,6 +238,7 @@ ends-length n (suc k) d [] t = clash t refl
 ends-length n (suc k) d (zero ∷ bs) t = ap suc (ends-length n k d bs t)
 ends-length n (suc k) d (suc b ∷ bs) t = ends-length n (suc k) (suc d) bs (both (leb (suc b) n) _ t .1)
 
+-- and each place an owner
 pub owners-length : (v : ℕ) (bs : List ℕ) → length (owners v bs) ≡ length (neighbours bs)
 unfolding owners neighbours
 owners-length v [] = refl

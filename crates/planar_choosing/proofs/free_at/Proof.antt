@@ -1,42 +1,42 @@
-use Prim.Native.Nat.{_≤_, _-_, _+_}
-use mathlib.Core.Path.{_≡_, sym}
-use mathlib.Core.Bool.{true}
+-- `planar_choosing::free_at` meets its contract: none of the first k lines is a chord.
+use Prim.Native.Nat.{_-_}
+use mathlib.Core.Path.{sym, _∙_}
 use native.Mathlib.Omega.{arith}
 use borrow.Author.Needs.{needs}
 use borrow.Author.Tests.{not-true, not-false}
-use Rattle.planar_choosing.specs.Free.{freeb, freeb-none, freeb-more, freeb-stop, through}
+use Rattle.planar_judging.specs.Laws.{Passed, passed-none, passed-more, passed-stop, passed-all}
+use Rattle.planar_choosing.specs.Free.{noChordAt?, freeIn}
 use Rattle.planar_choosing.proofs.free_at.Statement.{statement}
 use Rattle.planar_choosing.proofs.free_at.Tie as tie
 
 abbrev Inv-loop : tie.InvT-loop
-Inv-loop nbr pos lo len t k₀ k = (k ≤ len) × (freeb nbr pos lo k t ≡ true)
+Inv-loop nbr pos lo len t k₀ k = Passed (noChordAt? nbr pos lo t) len k
 
 abbrev μ-loop : tie.MeasureT-loop
 μ-loop nbr pos lo len t k₀ k = len - k
 
 loop-holds : tie.Need-loop-holds Inv-loop μ-loop
-loop-holds c = (omega arith, freeb-none _ _ _ _)
+loop-holds c = passed-none
 
-add-wide : tie.Need-add-wide Inv-loop μ-loop
-add-wide c = search needs
+add-stands-at : tie.Need-add-stands-at Inv-loop μ-loop
+add-stands-at c = search needs
 
-element-copy-out-wide : tie.Need-element-copy-out-wide Inv-loop μ-loop
-element-copy-out-wide c = search needs
+element-copy-out-stands-at : tie.Need-element-copy-out-stands-at Inv-loop μ-loop
+element-copy-out-stands-at c = search needs
 
-wide-requires : tie.Need-wide-requires Inv-loop μ-loop
-wide-requires c κs = search needs
+stands-at-requires : tie.Need-stands-at-requires Inv-loop μ-loop
+stands-at-requires c κs = search needs
 
-element-copy-out-wide-2 : tie.Need-element-copy-out-wide-2 Inv-loop μ-loop
-element-copy-out-wide-2 c = search needs
-
-wide-requires-2 : tie.Need-wide-requires-2 Inv-loop μ-loop
-wide-requires-2 c κs = search needs
-
-beside-requires : tie.Need-beside-requires Inv-loop μ-loop
-beside-requires c κs = search needs
+no-chord-requires : tie.Need-no-chord-requires Inv-loop μ-loop
+no-chord-requires c κs = search needs
 
 returns : tie.Need-returns Inv-loop μ-loop
-returns c = sym (freeb-stop _ _ _ _ _ (c .before .before .before .before .before .before .before .loop .k) (omega arith) (through (c .before .before .before .before .before .before .before .before .args .nbr .now) (c .before .before .before .before .before .before .before .before .args .pos .now) (c .before .before .before .before .before .before .before .before .args .lo + c .before .before .before .before .before .before .before .loop .k) _ _ _ _ _ (c .before .before .before .before .wide .ensures .0) (c .before .before .wide2 .ensures .0) (c .before .beside .ensures) (not-true _ (c .if1 .taken))))
+unfolding freeIn
+returns c =
+    let n = c .before in
+    let s = n .before in
+    let chord = sym (rw (s .stands-at .ensures .0) at (n .no-chord .ensures)) ∙ not-true _ (c .if1 .taken) in
+    passed-stop (s .before .before .before .loop .inv) (omega arith) chord
 
 add-k : tie.Need-add-k Inv-loop μ-loop
 add-k c = search needs
@@ -45,10 +45,15 @@ loop-less : tie.Need-loop-less Inv-loop μ-loop
 loop-less c = search needs
 
 loop-again : tie.Need-loop-again Inv-loop μ-loop
-loop-again c = (omega arith, freeb-more _ _ _ _ _ (c .before .before .before .before .before .before .before .loop .inv .1) (through (c .before .before .before .before .before .before .before .before .args .nbr .now) (c .before .before .before .before .before .before .before .before .args .pos .now) (c .before .before .before .before .before .before .before .before .args .lo + c .before .before .before .before .before .before .before .loop .k) _ _ _ _ _ (c .before .before .before .before .wide .ensures .0) (c .before .before .wide2 .ensures .0) (c .before .beside .ensures) (not-false _ (c .if1 .left))))
+loop-again c =
+    let n = c .before in
+    let s = n .before in
+    let none = sym (rw (s .stands-at .ensures .0) at (n .no-chord .ensures)) ∙ not-false _ (c .if1 .left) in
+    passed-more (s .before .before .before .loop .inv) (omega arith) none
 
 returns-2 : tie.Need-returns-2 Inv-loop μ-loop
-returns-2 c = let e : c .before .loop .k ≡ c .before .before .args .len = omega arith in sym (rw e at (c .before .loop .inv .1))
+unfolding freeIn
+returns-2 c = passed-all (c .before .loop .inv) (omega arith)
 
 pub free-at-spec : {M : Type 1} → statement M
 free-at-spec =
@@ -57,12 +62,10 @@ free-at-spec =
     Inv-loop
     μ-loop
     loop-holds
-    add-wide
-    element-copy-out-wide
-    wide-requires
-    element-copy-out-wide-2
-    wide-requires-2
-    beside-requires
+    add-stands-at
+    element-copy-out-stands-at
+    stands-at-requires
+    no-chord-requires
     returns
     add-k
     loop-less

@@ -1,5 +1,7 @@
-use Prim.Native.Nat.{_-_, _≤_}
-use mathlib.Core.Path.{_≡_, ap, sym, _∙_}
+-- `planar_choosing::lowest_open` meets its contract: none below v is open.
+use Prim.Native.Nat.{ℕ, _-_, _≤_}
+use mathlib.Core.Path.{_≡_, sym, _∙_}
+use mathlib.Core.Bool.{Bool}
 use native.Mathlib.Omega.{arith}
 use borrow.Author.Needs.{needs}
 use Rattle.planar_rules.specs.PlanarCode.{lowest}
@@ -13,9 +15,11 @@ Inv-loop n off nbr pos m v₀ v = (v ≤ n) × (lowest (openIn off nbr pos m) n 
 abbrev μ-loop : tie.MeasureT-loop
 μ-loop n off nbr pos m v₀ v = n - v
 
+abbrev open? : tie.Start Inv-loop μ-loop → ℕ → Bool
+open? c = let a = c .args in openIn (a .off .now) (a .nbr .now) (a .pos .now) (a .m)
+
 loop-holds : tie.Need-loop-holds Inv-loop μ-loop
-loop-holds c =
-    (omega arith, (let e : c .args .n - 0 ≡ c .args .n = omega arith in ap (λ k. lowest (openIn (c .args .off .now) (c .args .nbr .now) (c .args .pos .now) (c .args .m)) k 0) (sym e)))
+loop-holds c = (omega arith, (let e : c .args .n - 0 ≡ c .args .n = omega arith in sym (rw e)))
 
 open-requires : tie.Need-open-requires Inv-loop μ-loop
 open-requires c κs = c .before .before .pre (c .before .loop .v) (omega arith)
@@ -23,8 +27,7 @@ open-requires c κs = c .before .before .pre (c .before .loop .v) (omega arith)
 returns : tie.Need-returns Inv-loop μ-loop
 returns c =
     let z = c .before .before .before in
-    let a = z .before .args in
-    sym (z .loop .inv .1 ∙ lowest-here (openIn (a .off .now) (a .nbr .now) (a .pos .now) (a .m)) (a .n) (z .loop .v) (omega arith) (sym (c .before .open .ensures) ∙ c .if1 .taken))
+    sym (z .loop .inv .1 ∙ lowest-here (open? (z .before)) _ (z .loop .v) (omega arith) (sym (c .before .open .ensures) ∙ c .if1 .taken))
 
 add-v : tie.Need-add-v Inv-loop μ-loop
 add-v c = search needs
@@ -35,14 +38,11 @@ loop-less c = search needs
 loop-again : tie.Need-loop-again Inv-loop μ-loop
 loop-again c =
     let z = c .before .before .before in
-    let a = z .before .args in
-    (omega arith, z .loop .inv .1 ∙ lowest-on (openIn (a .off .now) (a .nbr .now) (a .pos .now) (a .m)) (a .n) (z .loop .v) (omega arith) (sym (c .before .open .ensures) ∙ c .if1 .left))
+    (omega arith, z .loop .inv .1 ∙ lowest-on (open? (z .before)) _ (z .loop .v) (omega arith) (sym (c .before .open .ensures) ∙ c .if1 .left))
 
 returns-2 : tie.Need-returns-2 Inv-loop μ-loop
 returns-2 c =
-    let z = c .before in
-    let a = z .before .args in
-    sym (z .loop .inv .1 ∙ lowest-end (openIn (a .off .now) (a .nbr .now) (a .pos .now) (a .m)) (a .n) (z .loop .v) (omega arith))
+    let z = c .before in sym (z .loop .inv .1 ∙ lowest-end (open? (z .before)) _ (z .loop .v) (omega arith))
 
 pub lowest-open-spec : {M : Type 1} → statement M
 lowest-open-spec =

@@ -1,7 +1,9 @@
-use Prim.Native.Nat.{_-_, _≤_}
+-- `planar_choosing::positions` meets its contract: pos has where the first i vertices stand.
+use Prim.Native.Nat.{_-_, _<_, _≤_}
 use mathlib.Core.Path.{_≡_}
 use native.Mathlib.Omega.{arith}
 use borrow.Author.Needs.{needs}
+use lib.ListN.{getD}
 use Rattle.planar_choosing.specs.Choosing.{Positions, pos-none, pos-more}
 use Rattle.planar_choosing.proofs.positions.Statement.{statement}
 use Rattle.planar_choosing.proofs.positions.Tie as tie
@@ -39,9 +41,8 @@ loop-less c = search needs
 loop-again : tie.Need-loop-again Inv-loop μ-loop
 loop-again c =
     let z = c .before .before .before in
-    let s = z .before in
-    let e = c .wide .ensures .0 in
-    (omega arith, rw e (pos-more (s .args .b .now) (z .loop .pos) (s .args .m) (z .loop .i) (omega arith) (s .pre .1) (omega (arith, c .wide .ensures)) (z .loop .inv .1)))
+    let small : getD (z .before .args .b .now) (z .loop .i) 0 < 256 = omega (arith, c .wide .ensures) in
+    (omega arith, rw (c .wide .ensures .0) (pos-more (z .before .args .m) (omega arith) (z .before .pre .1) small (z .loop .inv .1)))
 
 returns : tie.Need-returns Inv-loop μ-loop
 returns c =

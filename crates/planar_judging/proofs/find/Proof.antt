@@ -1,5 +1,6 @@
-use Prim.Native.Nat.{ℕ, _+_, _-_, _≤_}
-use mathlib.Core.Path.{_≡_, refl, ap, sym, _∙_}
+-- `planar_judging::find` meets its contract: no place from e up to hi names u.
+use Prim.Native.Nat.{_≤_}
+use mathlib.Core.Path.{_≡_, refl, sym, _∙_}
 use native.Mathlib.Omega.{arith}
 use borrow.Author.Needs.{needs}
 use Rattle.planar_judging.specs.Laws.{seekIn, seek-found, seek-on, seek-none}
@@ -22,29 +23,16 @@ element-copy-out-x : tie.Need-element-copy-out-x Inv-loop μ-loop
 element-copy-out-x c = search needs
 
 returns : tie.Need-returns Inv-loop μ-loop
-returns c =
-    let z = c .before .before .before in
-    let a = z .before .args in
-    let e : ℕ = z .loop .e - 1 in
-    let q : z .loop .e ≡ e + 1 = omega arith in
-    sym (z .loop .inv .1 ∙ ap (seekIn (a .nbr .now) (a .u) (a .none) (a .lo)) q ∙ seek-found (a .nbr .now) (a .u) (a .none) (a .lo) e (omega arith) (c .if1 .taken))
+returns c = let l = c .before .before .before .loop in sym (l .inv .1 ∙ seek-found _ _ _ _ (l .e) (omega arith) (c .if1 .taken))
 
 loop-less : tie.Need-loop-less Inv-loop μ-loop
 loop-less c = search needs
 
 loop-again : tie.Need-loop-again Inv-loop μ-loop
-loop-again c =
-    let z = c .before .before .before in
-    let a = z .before .args in
-    let e : ℕ = z .loop .e - 1 in
-    let q : z .loop .e ≡ e + 1 = omega arith in
-    (omega arith, z .loop .inv .1 ∙ ap (seekIn (a .nbr .now) (a .u) (a .none) (a .lo)) q ∙ seek-on (a .nbr .now) (a .u) (a .none) (a .lo) e (omega arith) (c .if1 .left))
+loop-again c = let l = c .before .before .before .loop in (omega arith, l .inv .1 ∙ seek-on _ _ _ _ (l .e) (omega arith) (c .if1 .left))
 
 returns-2 : tie.Need-returns-2 Inv-loop μ-loop
-returns-2 c =
-    let z = c .before in
-    let a = z .before .args in
-    sym (z .loop .inv .1 ∙ seek-none (a .nbr .now) (a .u) (a .none) (a .lo) (z .loop .e) (omega arith))
+returns-2 c = let l = c .before .loop in sym (l .inv .1 ∙ seek-none _ _ _ _ (l .e) (omega arith))
 
 pub find-spec : {M : Type 1} → statement M
 find-spec =

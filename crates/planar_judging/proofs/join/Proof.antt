@@ -1,3 +1,5 @@
+-- `planar_judging::join` meets its contract: the two labels are one already, or all of v's are given u's.
+use Prim.Native.Nat.{ℕ}
 use mathlib.Core.Path.{ap, sym, _∙_}
 use borrow.Author.Needs.{needs}
 use lib.ListN.{getD}
@@ -21,9 +23,8 @@ returns : tie.Need-returns
 returns c =
     let w2 = c .before .before .before in
     let w = w2 .before in
-    let a = w .before .args in
-    let l = a .lab .now in
-    merged-same (a .n) (a .v) (a .u) l (ap (λ i. getD l i 0) (sym (w .wide .ensures .0)) ∙ c .if1 .taken ∙ ap (λ i. getD l i 0) (w2 .wide2 .ensures .0))
+    let at : ℕ → ℕ = λ i. getD (w .before .args .lab .now) i 0 in
+    merged-same (ap at (sym (w .wide .ensures .0)) ∙ c .if1 .taken ∙ ap at (w2 .wide2 .ensures .0))
 
 relabel-requires : tie.Need-relabel-requires
 relabel-requires c κs = search needs
@@ -32,9 +33,8 @@ returns-2 : tie.Need-returns-2
 returns-2 c =
     let w2 = c .before .before .before .before .before in
     let w = w2 .before in
-    let a = w .before .args in
-    let l = a .lab .now in
-    merged-all (a .n) (a .v) (a .u) (getD l (w .wide .result) 0) (getD l (w2 .wide2 .result) 0) l (c .relabel .last .0) (ap (λ i. getD l i 0) (w .wide .ensures .0)) (ap (λ i. getD l i 0) (w2 .wide2 .ensures .0)) (c .relabel .ensures)
+    let at : ℕ → ℕ = λ i. getD (w .before .args .lab .now) i 0 in
+    merged-all (ap at (w .wide .ensures .0)) (ap at (w2 .wide2 .ensures .0)) (c .relabel .ensures)
 
 pub join-spec : {M : Type 1} → statement M
 join-spec =

@@ -1,8 +1,10 @@
+-- `planar_judging::joined` meets its contract: the labels are those that the rules give after i lines.
 use Prim.Native.Nat.{_-_, _≤_}
 use mathlib.Core.Path.{_≡_, _∙_}
 use native.Mathlib.Omega.{arith}
 use borrow.Author.Needs.{needs}
 use lib.ListN.{length}
+use Rattle.planar_rules.specs.PlanarCode.{Flat}
 use Rattle.planar_judging.specs.Arrays.{flatOf}
 use Rattle.planar_judging.specs.Laws.{Labelled, labelled-none, labelled-more, joined-is}
 use Rattle.planar_judging.proofs.joined.Statement.{statement}
@@ -14,13 +16,14 @@ Inv-loop n d off own nbr lab₀ i₀ lab i = (i ≤ d) × (length lab ≡ 256) �
 abbrev μ-loop : tie.MeasureT-loop
 μ-loop n d off own nbr lab₀ i₀ lab i = d - i
 
+abbrev net : tie.Start Inv-loop μ-loop → Flat
+net c = let a = c .args in flatOf (a .n) (a .d) (a .off .now) (a .own .now) (a .nbr .now)
+
 label-requires : tie.Need-label-requires Inv-loop μ-loop
 label-requires c κs = search needs
 
 loop-holds : tie.Need-loop-holds Inv-loop μ-loop
-loop-holds c =
-    let a = c .before .before .args in
-    (omega arith, c .label .ensures .0, labelled-none (flatOf (a .n) (a .d) (a .off .now) (a .own .now) (a .nbr .now)) (c .label .last .0) (c .label .ensures .1))
+loop-holds c = (omega arith, c .label .ensures .0, labelled-none (net (c .before .before)) (c .label .last .0) (c .label .ensures .1))
 
 element-copy-out-v : tie.Need-element-copy-out-v Inv-loop μ-loop
 element-copy-out-v c = search needs
@@ -40,11 +43,12 @@ loop-less c = search needs
 loop-again : tie.Need-loop-again Inv-loop μ-loop
 loop-again c =
     let z = c .before .before .before .before .before in
+    let l = z .loop in
     let s = z .before .before .before in
-    let a = s .args in (
+    let k = s .pre in (
       omega arith,
-      c .join .ensures .same ∙ z .loop .inv .1,
-      labelled-more (flatOf (a .n) (a .d) (a .off .now) (a .own .now) (a .nbr .now)) (z .loop .i) (z .loop .lab) (c .join .last .0) (s .pre .listed .own-in (z .loop .i) (omega arith)) (s .pre .nbrs (z .loop .i) (omega arith)) (z .loop .inv .2) (c .join .ensures),
+      c .join .ensures .same ∙ l .inv .1,
+      labelled-more (net s) (l .i) (k .listed .own-in (l .i) (omega arith)) (k .nbrs (l .i) (omega arith)) (l .inv .2) (c .join .ensures),
     )
 
 one-label-requires : tie.Need-one-label-requires Inv-loop μ-loop
@@ -54,10 +58,9 @@ returns : tie.Need-returns Inv-loop μ-loop
 returns c =
     let z = c .before .before .before in
     let s = z .before .before .before in
-    let a = s .args in
-    let e : z .loop .i ≡ a .d = omega arith in
-    let q : Labelled (flatOf (a .n) (a .d) (a .off .now) (a .own .now) (a .nbr .now)) (a .d) (z .loop .lab) = rw e at (z .loop .inv .2) in
-    c .one-label .ensures ∙ joined-is (flatOf (a .n) (a .d) (a .off .now) (a .own .now) (a .nbr .now)) (z .loop .lab) (omega (arith, s .pre .some)) q
+    let e : z .loop .i ≡ s .args .d = omega arith in
+    let all : Labelled (net s) (s .args .d) (z .loop .lab) = rw e at (z .loop .inv .2) in
+    c .one-label .ensures ∙ joined-is (net s) (z .loop .lab) (omega (arith, s .pre .some)) all
 
 pub joined-spec : {M : Type 1} → statement M
 joined-spec =

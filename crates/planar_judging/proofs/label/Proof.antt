@@ -1,3 +1,4 @@
+-- `planar_judging::label` meets its contract: each of the first x vertices has its own label.
 use Prim.Native.Nat.{ℕ, _-_, _<_, _≤_}
 use mathlib.Core.Path.{_≡_, refl, _∙_}
 use native.Mathlib.Omega.{arith}
@@ -31,7 +32,12 @@ loop-less c = search needs
 loop-again : tie.Need-loop-again Inv-loop μ-loop
 loop-again c =
     let z = c .before .before in
-    rw (c .wide .ensures .0) (omega arith, length-set (z .loop .lab) (z .loop .x) (z .loop .x) ∙ z .loop .inv .1, set-more (z .loop .lab) (λ k. k) (z .loop .x) (z .loop .x) (omega (arith, z .loop .inv .1, c .wide .ensures)) (z .loop .inv .2) refl)
+    let l = z .loop in
+    rw (c .wide .ensures .0) (
+      omega arith,
+      length-set (l .lab) (l .x) (l .x) ∙ l .inv .1,
+      set-more (l .lab) (λ k. k) (l .x) (l .x) (omega (arith, l .inv .1, c .wide .ensures)) (l .inv .2) refl,
+    )
 
 returns : tie.Need-returns Inv-loop μ-loop
 returns c = let z = c .before in (z .loop .inv .1, λ x xl. z .loop .inv .2 x (omega arith))

@@ -1,3 +1,4 @@
+-- `planar_judging::relabel` meets its contract: of the first x vertices, those that had label a have b.
 use Prim.Native.Nat.{_-_, _≤_}
 use mathlib.Core.Path.{_≡_, ap, sym, _∙_}
 use mathlib.Core.Logic.{⊎-elim}
@@ -38,11 +39,11 @@ loop-again : tie.Need-loop-again Inv-loop μ-loop
 loop-again c =
     let y = c .before .before in
     let z = y .before .before in
-    let e = y .wide .ensures .0 in
-    let s = z .before in
+    let l = z .loop in
+    let at = ap (λ i. getD (l .lab) i 0) (y .wide .ensures .0) in
     ⊎-elim
-    (λ w. (omega arith, rw (w .1, e) (relabel-set (z .loop .inv .1) (omega (arith, s .pre, y .wide .ensures)) (ap (λ i. getD (z .loop .lab) i 0) (sym e) ∙ w .0 .taken))))
-    (λ w. (omega arith, rw (w .1) (relabel-keep (z .loop .inv .1) (λ q. w .0 .left (ap (λ i. getD (z .loop .lab) i 0) e ∙ q)))))
+    (λ w. (omega arith, rw (w .1, y .wide .ensures .0) (relabel-set (l .inv .1) (omega (arith, z .before .pre, y .wide .ensures)) (sym at ∙ w .0 .taken))))
+    (λ w. (omega arith, rw (w .1) (relabel-keep (l .inv .1) (λ q. w .0 .left (at ∙ q)))))
     (c .if1 .came)
 
 returns : tie.Need-returns Inv-loop μ-loop

@@ -1,3 +1,4 @@
+-- `planar_judging::side_of` meets its contract: over the line, and to the next place.
 use mathlib.Core.Path.{ap, _∙_}
 use borrow.Author.Needs.{needs}
 use Rattle.planar_judging.specs.Arrays.{afterIn}
@@ -13,15 +14,15 @@ element-copy-out-broad c = search needs
 broad-requires : tie.Need-broad-requires
 broad-requires c κs = search needs
 
-next-requires : tie.Need-next-requires
-next-requires c κs = search needs
+after-requires : tie.Need-after-requires
+after-requires c κs = search needs
 
 returns : tie.Need-returns
 returns c =
     let w = c .before in
-    let s = w .before .before in
-    c .next .ensures ∙ ap (afterIn (s .args .off .now) (s .args .own .now)) (w .broad .ensures)
+    let a = w .before .before .args in
+    c .after .ensures ∙ ap (afterIn (a .off .now) (a .own .now)) (w .broad .ensures)
 
 pub side-of-spec : {M : Type 1} → statement M
 side-of-spec =
-    tie.close (tie.spec mul-broad element-copy-out-broad broad-requires next-requires returns)
+    tie.close (tie.spec mul-broad element-copy-out-broad broad-requires after-requires returns)

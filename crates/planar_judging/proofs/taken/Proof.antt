@@ -1,11 +1,16 @@
+-- `planar_judging::taken` meets its contract: the tests of 15, the count first.
 use Prim.Native.Nat.{_*_}
-use mathlib.Core.Path.{refl, ap, sym, _∙_}
+use mathlib.Core.Path.{ap, sym, _∙_}
 use borrow.Author.Needs.{needs}
 use borrow.Author.Tests.{eq-eqb, ne-eqb, not-true, not-false}
+use Rattle.planar_rules.specs.PlanarCode.{Flat}
 use Rattle.planar_judging.specs.Arrays.{flatOf}
-use Rattle.planar_judging.specs.Laws.{taken-count, taken-self, taken-twice, taken-both, taken-joined, taken-faces}
+use Rattle.planar_judging.specs.Laws.{taken-parts, taken-count}
 use Rattle.planar_judging.proofs.taken.Statement.{statement}
 use Rattle.planar_judging.proofs.taken.Tie as tie
+
+abbrev net : tie.Start → Flat
+net c = let a = c .args in flatOf (a .n) (a .d) (a .off .now) (a .own .now) (a .nbr .now)
 
 add-places : tie.Need-add-places
 add-places c = search needs
@@ -13,62 +18,35 @@ add-places c = search needs
 wide-requires : tie.Need-wide-requires
 wide-requires c κs = search needs
 
-mul-twice : tie.Need-mul-twice
-mul-twice c = search needs
+mul-wanted : tie.Need-mul-wanted
+mul-wanted c = search needs
 
 returns : tie.Need-returns
 returns c =
-    let s = c .before .before in let a = s .args in
-    sym (taken-count (flatOf (a .n) (a .d) (a .off .now) (a .own .now) (a .nbr .now)) (ne-eqb _ _ (λ e. c .if1 .taken (e ∙ ap (λ k. 6 * k) (sym (c .before .wide .ensures .0))))))
+    let w = c .before in
+    sym (taken-count (net (w .before)) (ne-eqb _ _ (λ e. c .if1 .taken (e ∙ ap (λ k. 6 * k) (sym (w .wide .ensures .0))))))
 
-not-self-requires : tie.Need-not-self-requires
-not-self-requires c κs = c .before .before .pre
+sound-lists-requires : tie.Need-sound-lists-requires
+sound-lists-requires c κs = c .before .before .pre
 
 returns-2 : tie.Need-returns-2
 returns-2 c =
-    let b = c .before in
-    let a = b .before .before .before .args in
-    sym (taken-self (flatOf (a .n) (a .d) (a .off .now) (a .own .now) (a .nbr .now)) (sym (b .not-self .ensures) ∙ not-true _ (c .if2 .taken)))
+    let t = c .before .before in
+    let w = t .before in
+    let count = eq-eqb _ _ (t .if1 .left ∙ ap (λ k. 6 * k) (w .wide .ensures .0)) in
+    sym (taken-parts (net (w .before)) ∙ rw (count, sym (c .before .sound-lists .ensures) ∙ not-true _ (c .if2 .taken)))
 
-not-twice-requires : tie.Need-not-twice-requires
-not-twice-requires c κs = c .before .before .before .before .pre
+sound-faces-requires : tie.Need-sound-faces-requires
+sound-faces-requires c κs = c .before .before .before .before .pre
 
 returns-3 : tie.Need-returns-3
 returns-3 c =
-    let b = c .before in
-    let a = b .before .before .before .before .before .args in
-    sym (taken-twice (flatOf (a .n) (a .d) (a .off .now) (a .own .now) (a .nbr .now)) (sym (b .not-twice .ensures) ∙ not-true _ (c .if3 .taken)))
-
-joined-requires : tie.Need-joined-requires
-joined-requires c κs = c .before .before .before .before .before .before .pre
-
-returns-4 : tie.Need-returns-4
-returns-4 c =
-    let b = c .before in
-    let a = b .before .before .before .before .before .before .before .args in
-    sym (taken-joined (flatOf (a .n) (a .d) (a .off .now) (a .own .now) (a .nbr .now)) (sym (b .joined .ensures) ∙ not-true _ (c .if4 .taken)))
-
-in-both-requires : tie.Need-in-both-requires
-in-both-requires c κs = (c .before .before .before .before .before .before .before .before .before .pre, refl)
-
-returns-5 : tie.Need-returns-5
-returns-5 c =
-    let a = c .before .before .before .before .before .before .before .before .before .before .before .args in
-    sym (taken-both (flatOf (a .n) (a .d) (a .off .now) (a .own .now) (a .nbr .now)) (sym (c .before .in-both .ensures .0) ∙ not-true _ (c .if5 .taken)))
-
-faces-requires : tie.Need-faces-requires
-faces-requires c κs =
-    (c .before .before .before .before .before .before .before .before .before .before .before .before .pre, c .before .before .in-both .ensures .1 (not-false _ (c .before .if5 .left)))
-
-returns-6 : tie.Need-returns-6
-returns-6 c =
-    let a = c .before .before .before .before .before .before .before .before .before .before .before .before .before .args in
-    c .faces .ensures ∙
-    sym (taken-faces (flatOf (a .n) (a .d) (a .off .now) (a .own .now) (a .nbr .now)) (eq-eqb _ _ (c .before .before .before .before .before .before .before .before .before .before .before .if1 .left ∙ ap (λ k. 6 * k) (c .before .before .before .before .before .before .before .before .before .before .before .before .wide .ensures .0)))
-    (sym (c .before .before .before .before .before .before .before .before .before .before .not-self .ensures) ∙ not-false _ (c .before .before .before .before .before .before .before .before .before .if2 .left))
-    (sym (c .before .before .before .before .before .before .before .before .not-twice .ensures) ∙ not-false _ (c .before .before .before .before .before .before .before .if3 .left))
-    (sym (c .before .before .before .in-both .ensures .0) ∙ not-false _ (c .before .before .if5 .left))
-    (sym (c .before .before .before .before .before .before .joined .ensures) ∙ not-false _ (c .before .before .before .before .before .if4 .left)))
+    let l = c .before in
+    let t = l .before .before in
+    let w = t .before in
+    let count = eq-eqb _ _ (t .if1 .left ∙ ap (λ k. 6 * k) (w .wide .ensures .0)) in
+    let lists = sym (l .before .sound-lists .ensures) ∙ not-false _ (l .if2 .left) in
+    c .sound-faces .ensures ∙ sym (taken-parts (net (w .before)) ∙ rw (count, lists))
 
 pub taken-spec : {M : Type 1} → statement M
 taken-spec =
@@ -76,15 +54,9 @@ taken-spec =
     (tie.spec
     add-places
     wide-requires
-    mul-twice
+    mul-wanted
     returns
-    not-self-requires
+    sound-lists-requires
     returns-2
-    not-twice-requires
-    returns-3
-    joined-requires
-    returns-4
-    in-both-requires
-    returns-5
-    faces-requires
-    returns-6)
+    sound-faces-requires
+    returns-3)

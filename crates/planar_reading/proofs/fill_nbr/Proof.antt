@@ -1,3 +1,4 @@
+-- `planar_reading::fill_nbr` meets its contract: nbr begins with the neighbours before byte i.
 use Prim.Native.Nat.{_-_, _<_}
 use mathlib.Core.Logic.{⊎-elim}
 use native.Mathlib.Omega.{arith}
@@ -27,8 +28,8 @@ element-write-nbr : tie.Need-element-write-nbr Inv-loop μ-loop
 element-write-nbr c =
     let z = c .before .before .before in
     let s = z .before in
-    let l : z .loop .i < length (s .args .file .now) = omega arith in
-    omega (arith, fill-one (z .loop .inv) (nbr-more (s .args .file .now) (z .loop .i) l (omega (arith, c .if1 .taken))) (omega (arith, s .pre)), s .pre)
+    let one = nbr-more (s .args .file .now) (z .loop .i) (omega arith) (omega (arith, c .if1 .taken)) in
+    omega (arith, fill-one (z .loop .inv) one (omega (arith, s .pre)), s .pre)
 
 add-d : tie.Need-add-d Inv-loop μ-loop
 add-d c = search needs
@@ -42,11 +43,13 @@ loop-less c = search needs
 loop-again : tie.Need-loop-again Inv-loop μ-loop
 loop-again c =
     let z = c .before .before .before in
+    let l = z .loop in
     let s = z .before in
-    let l : z .loop .i < length (s .args .file .now) = omega arith in
+    let bs = s .args .file .now in
+    let il : l .i < length bs = omega arith in
     ⊎-elim
-    (λ w. rw (w .1, w .2) (fill-next (z .loop .inv) (nbr-more (s .args .file .now) (z .loop .i) l (omega (arith, w .0 .taken))) (omega (arith, s .pre))))
-    (λ w. rw (w .1, w .2) (fill-same (z .loop .inv) (nbr-zero (s .args .file .now) (z .loop .i) l (omega (arith, w .0 .left)))))
+    (λ w. rw (w .1, w .2) (fill-next (l .inv) (nbr-more bs (l .i) il (omega (arith, w .0 .taken))) (omega (arith, s .pre))))
+    (λ w. rw (w .1, w .2) (fill-same (l .inv) (nbr-zero bs (l .i) il (omega (arith, w .0 .left)))))
     (c .if1 .came)
 
 returns : tie.Need-returns Inv-loop μ-loop

@@ -1,5 +1,6 @@
-use Prim.Native.Nat.{_+_, _-_, _<_, _≤_}
-use mathlib.Core.Path.{_≡_, refl, ap, sym, _∙_}
+-- `planar_reading::lists` meets its contract: behind byte i as many lists must stand as are left.
+use Prim.Native.Nat.{_-_, _<_, _≤_}
+use mathlib.Core.Path.{_≡_, refl, sym, _∙_}
 use mathlib.Core.Logic.{⊎-elim}
 use native.Mathlib.Omega.{arith}
 use borrow.Author.Needs.{needs}
@@ -24,8 +25,8 @@ shared-slice-read-c c = search needs
 returns : tie.Need-returns Inv-loop μ-loop
 returns c =
     let z = c .before .before .before in
-    let s = z .before .args in
-    sym (z .loop .inv .1 ∙ ap (λ k. lists? (s .n) k (drop (z .loop .i) (s .file .now))) (c .if1 .taken) ∙ lists-over (s .n) (s .file .now) (z .loop .i) (omega arith))
+    let a = z .before .args in
+    sym (z .loop .inv .1 ∙ rw (c .if1 .taken) (lists-over (a .n) (a .file .now) (z .loop .i) (omega arith)))
 
 returns-2 : tie.Need-returns-2 Inv-loop μ-loop
 returns-2 c =
@@ -46,12 +47,16 @@ loop-less c = search needs
 loop-again : tie.Need-loop-again Inv-loop μ-loop
 loop-again c =
     let z = c .before .before .before .before .before in
-    let s = z .before .args in
-    let l : z .loop .i < length (s .file .now) = omega arith in
-    let p : 0 < z .loop .left = omega (arith, c .before .before .if1 .left) in
+    let l = z .loop in
+    let n = z .before .args .n in
+    let bs = z .before .args .file .now in
+    let il : l .i < length bs = omega arith in
+    let some : 0 < l .left = omega (arith, c .before .before .if1 .left) in
     ⊎-elim
-    (λ w. (omega (arith, w .1), z .loop .inv .1 ∙ lists-zero (s .n) (s .file .now) (z .loop .i) l (z .loop .left) p (w .0 .taken) ∙ ap (λ k. lists? (s .n) k (drop (z .loop .i + 1) (s .file .now))) (sym (w .1))))
-    (λ w. (omega (arith, w .1), z .loop .inv .1 ∙ lists-more (s .n) (s .file .now) (z .loop .i) l (z .loop .left) p (omega (arith, w .0 .left)) (omega (arith, c .before .if2 .left)) ∙ ap (λ k. lists? (s .n) k (drop (z .loop .i + 1) (s .file .now))) (sym (w .1))))
+    (λ w. (omega (arith, w .1), l .inv .1 ∙ lists-zero n bs (l .i) il (l .left) some (w .0 .taken) ∙ sym (rw (w .1))))
+    (λ w.
+    let in-net = lists-more n bs (l .i) il (l .left) some (omega (arith, w .0 .left)) (omega (arith, c .before .if2 .left)) in
+    (omega (arith, w .1), l .inv .1 ∙ in-net ∙ sym (rw (w .1))))
     (c .if3 .came)
 
 returns-3 : tie.Need-returns-3 Inv-loop μ-loop

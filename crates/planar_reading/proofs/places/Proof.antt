@@ -1,3 +1,4 @@
+-- `planar_reading::places` meets its contract: d neighbours stand before byte i.
 use Prim.Native.Nat.{_+_, _-_, _<_, _≤_}
 use mathlib.Core.Path.{_≡_, ap}
 use mathlib.Core.Logic.{⊎-elim}
@@ -33,18 +34,18 @@ loop-less c = search needs
 loop-again : tie.Need-loop-again Inv-loop μ-loop
 loop-again c =
     let z = c .before .before .before in
-    let s = z .before .args in
-    let l : z .loop .i < length (s .file .now) = omega arith in
+    let l = z .loop in
+    let bs = z .before .args .file .now in
+    let il : l .i < length bs = omega arith in
     ⊎-elim
-    (λ w. (omega arith, omega (arith, z .loop .inv .1, ap length (nbr-more (s .file .now) (z .loop .i) l (omega (arith, w .0 .taken))))))
-    (λ w. (omega arith, omega (arith, z .loop .inv .1, ap length (nbr-zero (s .file .now) (z .loop .i) l (omega (arith, w .0 .left))))))
+    (λ w. (omega arith, omega (arith, l .inv .1, ap length (nbr-more bs (l .i) il (omega (arith, w .0 .taken))))))
+    (λ w. (omega arith, omega (arith, l .inv .1, ap length (nbr-zero bs (l .i) il (omega (arith, w .0 .left))))))
     (c .if1 .came)
 
 returns : tie.Need-returns Inv-loop μ-loop
 returns c =
     let z = c .before in
-    let s = z .before .args in
-    omega (arith, z .loop .inv .1, ap length (nbr-done (s .file .now) (z .loop .i) (omega arith)))
+    omega (arith, z .loop .inv .1, ap length (nbr-done (z .before .args .file .now) (z .loop .i) (omega arith)))
 
 pub places-spec : {M : Type 1} → statement M
 places-spec =

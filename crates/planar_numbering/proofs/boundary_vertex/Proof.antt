@@ -1,9 +1,10 @@
+-- `planar_numbering::boundary_vertex` meets its contract: before the entries, among them, or behind them.
 use Prim.Native.Nat.{_+_}
 use mathlib.Core.Path.{sym}
 use borrow.Author.Needs.{needs}
 use borrow.Author.Tests.{lt-ltb, le-ltb}
-use Rattle.planar_numbering.proofs.new_at.Statement.{statement}
-use Rattle.planar_numbering.proofs.new_at.Tie as tie
+use Rattle.planar_numbering.proofs.boundary_vertex.Statement.{statement}
+use Rattle.planar_numbering.proofs.boundary_vertex.Tie as tie
 
 element-copy-out-result : tie.Need-element-copy-out-result
 element-copy-out-result c = search needs
@@ -22,7 +23,9 @@ element-copy-out-result-2 c = search needs
 
 returns-2 : tie.Need-returns-2
 returns-2 c =
-    let a = c .before .before .before .args in sym (rw (le-ltb (a .x) (a .a) (c .before .before .if1 .left), lt-ltb (a .x) (a .a + a .len) (c .before .if2 .taken)))
+    let t = c .before in
+    let a = t .before .before .args in
+    sym (rw (le-ltb (a .x) (a .a) (t .before .if1 .left), lt-ltb (a .x) (a .a + a .len) (t .if2 .taken)))
 
 add-result-2 : tie.Need-add-result-2
 add-result-2 c = search needs
@@ -35,10 +38,12 @@ element-copy-out-result-3 c = search needs
 
 returns-3 : tie.Need-returns-3
 returns-3 c =
-    let a = c .before .before .before .args in sym (rw (le-ltb (a .x) (a .a) (c .before .before .if1 .left), le-ltb (a .x) (a .a + a .len) (c .before .if2 .left)))
+    let t = c .before in
+    let a = t .before .before .args in
+    sym (rw (le-ltb (a .x) (a .a) (t .before .if1 .left), le-ltb (a .x) (a .a + a .len) (t .if2 .left)))
 
-pub new-at-spec : {M : Type 1} → statement M
-new-at-spec =
+pub boundary-vertex-spec : {M : Type 1} → statement M
+boundary-vertex-spec =
     tie.close
     (tie.spec
     element-copy-out-result

@@ -1,11 +1,12 @@
+-- `planar_numbering::put_first_boundary` meets its contract: the first x entries stand in b.
 use Prim.Native.Nat.{ℕ, _+_, _-_, _<_, _≤_}
-use mathlib.Core.Path.{_≡_, refl, _∙_}
+use mathlib.Core.Path.{_≡_, refl}
 use native.Mathlib.Omega.{arith}
 use borrow.Author.Needs.{needs}
 use lib.ListN.{length, getD, length-set}
 use Rattle.planar_judging.specs.Laws.{set-more}
-use Rattle.planar_numbering.proofs.copy.Statement.{statement}
-use Rattle.planar_numbering.proofs.copy.Tie as tie
+use Rattle.planar_numbering.proofs.put_first_boundary.Statement.{statement}
+use Rattle.planar_numbering.proofs.put_first_boundary.Tie as tie
 
 abbrev Inv-loop : tie.InvT-loop
 Inv-loop ent s len b₀ x₀ b x = (x ≤ len) × (length b ≡ 256) × ((k : ℕ) → k < x → getD b k 0 ≡ getD ent (s + k) 0)
@@ -35,13 +36,17 @@ loop-again : tie.Need-loop-again Inv-loop μ-loop
 loop-again c =
     let z = c .before .before in
     let a = z .before .args in
-    (omega arith, length-set (z .loop .b) (z .loop .x) (getD (a .ent .now) (a .s + z .loop .x) 0) ∙ z .loop .inv .1, set-more (z .loop .b) (λ k. getD (a .ent .now) (a .s + k) 0) (z .loop .x) (getD (a .ent .now) (a .s + z .loop .x) 0) (omega (arith, z .loop .inv .1, z .before .pre)) (z .loop .inv .2) refl)
+    let l = z .loop in (
+      omega arith,
+      simp length-set (l .inv .1),
+      set-more (l .b) (λ k. getD (a .ent .now) (a .s + k) 0) (l .x) _ (omega (arith, l .inv .1, z .before .pre)) (l .inv .2) refl,
+    )
 
 returns : tie.Need-returns Inv-loop μ-loop
 returns c = let z = c .before in (z .loop .inv .1, λ x xl. z .loop .inv .2 x (omega arith))
 
-pub copy-spec : {M : Type 1} → statement M
-copy-spec =
+pub put-first-boundary-spec : {M : Type 1} → statement M
+put-first-boundary-spec =
     tie.close
     (tie.spec
     Inv-loop
