@@ -108,7 +108,7 @@ module _ (file : List ℕ) (ok : formed? file ≡ true) where
       D = placesOf file;
       off = fun-ext {f = λ v. getD off v 0} {g = λ v. getD (0 ∷ ends 0 (body file)) v 0} off-at i;
       own = fun-ext {f = λ d. getD own d 0} {g = λ d. getD (owners 0 (body file)) d 0} own-at i;
-      nbr = fun-ext {f = λ d. getD nbr d 0} {g = λ d. getD (neighbours (body file)) d 0} nbr-at i
+      nbr = fun-ext {f = λ d. getD nbr d 0} {g = λ d. getD (neighbours (body file)) d 0} nbr-at i;
     }
 
     off-low : (v : ℕ) → v ≤ nOf file → getD (0 ∷ ends 0 (body file)) v 0 ≤ placesOf file

@@ -151,7 +151,7 @@ module _ {file : List ℕ} {n D : ℕ} {off own nbr : List ℕ} (t : TakenIn fil
           ver-size = a .numbered .ver-size;
           ent-size = a .numbered .ent-size;
           start = a .numbered .s-in;
-          fits = a .numbered .fits;
+          fits = a .numbered .fitting;
           small = ver-small (a .numbered);
           order-room = omega (arith, order-room (a .numbered) (a .positions));
           list-room = c;

@@ -22,7 +22,7 @@ use Rattle.planar_judging.specs.Arrays.{flatOf}
 use Rattle.planar_choosing.specs.Choosing.{Apart, openIn, open-is, Chosen}
 use Rattle.planar_numbering.specs.Gathering.{Gatherable, Gathered}
 use Rattle.planar_numbering.specs.Boundary.{boundaryVertex, boundary-is}
-use Rattle.planar_numbering.specs.Points.{pointsFrom, points-length, points-more}
+use Rattle.planar_numbering.specs.Points.{pointsFrom, points-length, points-more, Fitting, fitting-more}
 use Rattle.planar_numbering.specs.Top.{Ready, same-net}
 
 -- index k has its point, with len entries before those that stood in ent from s on, and c has the boundary without it
@@ -36,6 +36,7 @@ pub record NextNumbered (f : Flat) (b : List ℕ) (m k : ℕ) (ver ln ent : List
   pub c-size : length c′ ≡ 256
   pub boundary : take (m + len - 3) c′ ≡ without f (take m b) (indexOf (next f (take m b)) (take m b))
   pub later-is : pointsFrom (f .n) ver′ ln′ ent′ (s - len) k ≡ comesOff f (take m b) ∷ pointsFrom (f .n) ver ln ent s (suc k)
+  pub fitting : Fitting ln′ k (f .n - k) (drop (s - len) ent′)
 
 -- the lowest by one test is the lowest by another that says the same
 lowest-same : (p q : ℕ → Bool) (k x : ℕ) → ((v : ℕ) → v < x + k → p v ≡ q v) → lowest p k x ≡ lowest q k x
@@ -237,6 +238,7 @@ module _ {n D : ℕ} {off own nbr b : List ℕ} {m k : ℕ} {ver ln ent : List �
             c-size = cl;
             boundary = boundary;
             later-is = numbered;
+            fitting = fitting;
           }
         where
           ent-size : length ent′ ≡ 768
@@ -262,6 +264,13 @@ module _ {n D : ℕ} {off own nbr b : List ℕ} {m k : ℕ} {ver ln ent : List �
               (points-more ver ln k (n - suc k) v E (drop s ent) (omega (arith, a .ver-size, r .k-in, a .byte)) (omega (arith, a .ln-size, r .k-in, a .byte)) ∙
               ap (λ x. record { vertex = x; entries = E } ∷ later) v-is)
 
+          fitting : Fitting (set ln k (s - e)) k (n - k) (drop (s - (s - e)) ent′)
+          fitting =
+              let place : s - (s - e) ≡ e = omega (arith, e-low) in
+              let count : n - k ≡ suc (n - suc k) = omega (arith, r .k-in) in
+              rw (place, count, ent-is, len-is)
+              (fitting-more ln k (n - suc k) E (drop s ent) (omega (arith, r .arrays .ln-size, r .k-in, r .arrays .byte)) (r .fitting))
+
   -- ---- and the next after it
 
   module _ {ver′ ln′ ent′ c′ : List ℕ} {len : ℕ} (z : NextNumbered f b m k ver ln ent s ver′ ln′ ent′ c′ len) where
@@ -279,6 +288,7 @@ module _ {n D : ℕ} {off own nbr b : List ℕ} {m k : ℕ} {ver ln ent : List �
           k-in = omega (arith, r .k-in);
           going = rw (index, z .boundary, z .later-is) next-going;
           room = rw (index, z .later-is) (omega (arith, r .room, z .len-is, z .len-room));
+          fitting = rw index (z .fitting);
         }
 
     -- the rules count on with it

@@ -10,7 +10,7 @@ use Rattle.planar_order.specs.Numbering.{total}
 use Rattle.planar_order.specs.Theorem.{Ordered, ordered}
 use Rattle.planar_judging.specs.Arrays.{flatOf}
 use Rattle.planar_numbering.specs.Gathering.{drop-set}
-use Rattle.planar_numbering.specs.Points.{pointsIn, pointsFrom, points-same}
+use Rattle.planar_numbering.specs.Points.{pointsIn, pointsFrom, points-same, Fitting, fitting-same}
 use Rattle.planar_numbering.specs.Top.{Ready, TopNumbered}
 use Rattle.planar_numbering.specs.Next.{NextNumbered, ready-again, number-again}
 
@@ -30,16 +30,18 @@ pub record CountedDown (f : Flat) (ver ln ent : List ℕ) (s : ℕ) : Type 0 whe
   pub ln-size : length ln ≡ 256
   pub ent-size : length ent ≡ 768
   pub two : 2 ≤ f .n
+  pub fitting : Fitting ln 2 (f .n - 2) (drop s ent)
   pub s-some : 0 < s
   pub s-in : s ≤ 768
 
--- all points are numbered
+-- all points are numbered, and none has more entries than stand there
 pub record AllNumbered (f : Flat) (ver ln ent : List ℕ) (s : ℕ) : Type 0 where
   pub all : pointsIn ver ln 0 (f .n) (drop s ent) ≡ points f
   pub ver-size : length ver ≡ 256
   pub ln-size : length ln ≡ 256
   pub ent-size : length ent ≡ 768
   pub s-in : s ≤ 768
+  pub fitting : Fitting ln 0 (f .n) (drop s ent)
 
 -- point n alone has its number
 pub counting-begin :
@@ -84,9 +86,20 @@ module _ {n D : ℕ} {off own nbr b ver ln ent : List ℕ} {m k s : ℕ} (x : Co
         ln-size = a .ln-size;
         ent-size = a .ent-size;
         two = omega (arith, a .kept .some);
+        fitting = rw next at (x .ready .fitting);
         s-some = omega (arith, ap total all, rest-total, a .byte);
         s-in = omega arith;
       }
+
+-- an array whose first two elements were put
+front-0 : (l : List ℕ) (y : ℕ) → 1 < length l → getD (set (set l 0 0) 1 y) 0 0 ≡ 0
+front-0 l y p = getD-set-other (set l 0 0) 1 0 y 0 (λ e. omega arith) ∙ getD-set-same l 0 0 0 (omega arith)
+
+front-1 : (l : List ℕ) (y : ℕ) → 1 < length l → getD (set (set l 0 0) 1 y) 1 0 ≡ y
+front-1 l y p = getD-set-same (set l 0 0) 1 y 0 (omega (arith, length-set l 0 0))
+
+front-behind : (l : List ℕ) (y j : ℕ) → 2 ≤ j → getD (set (set l 0 0) 1 y) j 0 ≡ getD l j 0
+front-behind l y j p = getD-set-other (set l 0 0) 1 j y 0 (λ e. omega arith) ∙ getD-set-other l 0 j 0 0 (λ e. omega arith)
 
 -- points 1 and 2, put in front of the others
 two-more :
@@ -97,18 +110,19 @@ unfolding pointsIn
 two-more ver ln ent s v c vl ll s0 sl =
     let k : ℕ = s - 1 in
     let ek : suc k ≡ s = omega arith in
-    rw (drop-set ent k 0 (omega arith), ek, at-0 ver v vl, at-0 ln 1 ll, at-1 ver v vl, at-1 ln 1 ll)
+    rw (drop-set ent k 0 (omega arith), ek, front-0 ver v vl, front-0 ln 1 ll, front-1 ver v vl, front-1 ln 1 ll)
     (ap (λ t. record { vertex = 0; entries = [] } ∷ record { vertex = v; entries = 0 ∷ [] } ∷ t)
-    (points-same ver ln (set (set ver 0 0) 1 v) (set (set ln 0 0) 1 1) 2 c (drop s ent) (behind ver v) (behind ln 1)))
-  where
-    at-0 : (l : List ℕ) (y : ℕ) → 1 < length l → getD (set (set l 0 0) 1 y) 0 0 ≡ 0
-    at-0 l y p = getD-set-other (set l 0 0) 1 0 y 0 (λ e. omega arith) ∙ getD-set-same l 0 0 0 (omega arith)
+    (points-same ver ln (set (set ver 0 0) 1 v) (set (set ln 0 0) 1 1) 2 c (drop s ent) (front-behind ver v) (front-behind ln 1)))
 
-    at-1 : (l : List ℕ) (y : ℕ) → 1 < length l → getD (set (set l 0 0) 1 y) 1 0 ≡ y
-    at-1 l y p = getD-set-same (set l 0 0) 1 y 0 (omega (arith, length-set l 0 0))
-
-    behind : (l : List ℕ) (y j : ℕ) → 2 ≤ j → getD (set (set l 0 0) 1 y) j 0 ≡ getD l j 0
-    behind l y j p = getD-set-other (set l 0 0) 1 j y 0 (λ e. omega arith) ∙ getD-set-other l 0 j 0 0 (λ e. omega arith)
+two-fitting :
+    (ln ent : List ℕ) (s c : ℕ) → 1 < length ln → 0 < s → s ≤ length ent → Fitting ln 2 c (drop s ent) →
+    Fitting (set (set ln 0 0) 1 1) 0 (suc (suc c)) (drop (s - 1) (set ent (s - 1) 0))
+unfolding Fitting
+two-fitting ln ent s c ll s0 sl h =
+    let k : ℕ = s - 1 in
+    let ek : suc k ≡ s = omega arith in
+    rw (drop-set ent k 0 (omega arith), ek, front-0 ln 1 ll, front-1 ln 1 ll)
+    (omega arith, (omega arith, fitting-same ln (set (set ln 0 0) 1 1) 2 c (drop s ent) (front-behind ln 1) h))
 
 -- and then all points are numbered
 pub all-numbered :
@@ -127,4 +141,5 @@ all-numbered {f} {ver} {ln} {ent} {s} z =
       ln-size = length-set (set ln 0 0) 1 1 ∙ length-set ln 0 0 ∙ z .ln-size;
       ent-size = length-set ent (s - 1) 0 ∙ z .ent-size;
       s-in = omega (arith, z .s-in);
+      fitting = rw n (two-fitting ln ent s (f .n - 2) (omega (arith, z .ln-size)) (z .s-some) room (z .fitting));
     }

@@ -3,7 +3,7 @@ use Prim.Native.Nat.{ℕ, zero, suc, _-_, _<_, _≤_}
 use mathlib.Core.Path.{_≡_, refl, ap}
 use mathlib.Core.List.{List, [], _∷_, _++_}
 use native.Mathlib.Omega.{arith}
-use lib.ListN.{length, getD, take, drop, set}
+use lib.ListN.{length, getD, take, drop, set, length-append}
 use lib.Seq.{getD-set-same, getD-set-other, take-at, drop-at}
 use Rattle.planar_rules.specs.PlanarCode.{Point}
 
@@ -50,3 +50,29 @@ pub points-length : (ver ln : List ℕ) (i c : ℕ) (l : List ℕ) → length (p
 unfolding pointsIn
 points-length ver ln i zero l = refl
 points-length ver ln i (suc c) l = ap suc (points-length ver ln (suc i) c (drop (getD ln i 0) l))
+
+-- ---- no point has more entries than are left
+
+unfoldable pub Fitting : List ℕ → ℕ → ℕ → List ℕ → Type 0
+Fitting ln i zero l = Unit {0}
+Fitting ln i (suc c) l = (getD ln i 0 ≤ length l) × Fitting ln (suc i) c (drop (getD ln i 0) l)
+
+-- what stands below i doesn't matter
+pub fitting-same : (ln ln′ : List ℕ) (i c : ℕ) (l : List ℕ) → ((j : ℕ) → i ≤ j → getD ln′ j 0 ≡ getD ln j 0) → Fitting ln i c l → Fitting ln′ i c l
+unfolding Fitting
+fitting-same ln ln′ i zero l a f = tt
+fitting-same ln ln′ i (suc c) l a f = rw (a i (omega arith)) (f .0, fitting-same ln ln′ (suc i) c (drop (getD ln i 0) l) (λ j p. a j (omega arith)) (f .1))
+
+-- one more in front
+pub fitting-more : (ln : List ℕ) (k c : ℕ) (E l : List ℕ) → k < length ln → Fitting ln (suc k) c l → Fitting (set ln k (length E)) k (suc c) (E ++ l)
+unfolding Fitting
+fitting-more ln k c E l b f =
+    rw (getD-set-same ln k (length E) 0 b, drop-at E l (length E) refl) (
+      omega (arith, length-append E l),
+      fitting-same ln (set ln k (length E)) (suc k) c l (λ j p. getD-set-other ln k j (length E) 0 (λ e. omega arith)) f,
+    )
+
+-- none behind the last
+pub fitting-none : (ln : List ℕ) (i : ℕ) (l : List ℕ) → Fitting ln i 0 l
+unfolding Fitting
+fitting-none ln i l = tt

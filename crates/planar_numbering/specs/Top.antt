@@ -1,6 +1,6 @@
 -- Point n, which is numbered first: its neighbours are the first boundary.
 use Prim.Native.Nat.{ℕ, suc, _+_, _-_, _<_, _≤_}
-use mathlib.Core.Path.{_≡_, ap, sym, _∙_}
+use mathlib.Core.Path.{subst, _≡_, ap, sym, _∙_}
 use mathlib.Core.List.{List, [], _∷_, _++_, append-nil}
 use native.Mathlib.Omega.{arith}
 use lib.ListN.{length, getD, take, drop, set, length-set, drop-of-length-le}
@@ -12,7 +12,7 @@ use Rattle.planar_sphere.specs.Check.{Valid, net-of}
 use Rattle.planar_order.specs.Numbering.{Going, total, goes-first, fits, z-in, start-is, E-gathers, hit, no-hit, p-in}
 use Rattle.planar_judging.specs.Arrays.{flatOf, Kept, afterIn}
 use Rattle.planar_numbering.specs.Gathering.{Gatherable, Gathered}
-use Rattle.planar_numbering.specs.Points.{pointsIn, pointsFrom, points-more, none-left}
+use Rattle.planar_numbering.specs.Points.{pointsIn, pointsFrom, points-more, none-left, Fitting, fitting-more, fitting-none}
 
 -- what is known of the net, and the sizes of the arrays
 pub record Begin (n D : ℕ) (off own nbr ver ln ent b : List ℕ) : Type 0 where
@@ -40,6 +40,7 @@ pub record Ready (n D : ℕ) (off own nbr b : List ℕ) (m k : ℕ) (ver ln ent 
   pub k-in : suc k < n
   pub going : Going (flatOf n D off own nbr) (take m b) (pointsFrom n ver ln ent s (suc k))
   pub room : s + total (pointsFrom n ver ln ent s (suc k)) ≡ 768
+  pub fitting : Fitting ln (suc k) (n - suc k) (drop s ent)
 
 -- point n is numbered, and its entries are the boundary
 pub record TopNumbered (n D : ℕ) (off own nbr b ver ln ent : List ℕ) (s : ℕ) : Type 0 where
@@ -139,6 +140,7 @@ module _ {n D : ℕ} {off own nbr ver ln ent b : List ℕ} (r : Begin n D off ow
                   k-in = omega (arith, r .valid .four);
                   going = rw (boundary, numbered) E-going;
                   room = rw numbered (omega (arith, len-is, top-low));
+                  fitting = fitting;
                 };
             boundary = boundary;
             later-is = numbered;
@@ -161,3 +163,11 @@ module _ {n D : ℕ} {off own nbr ver ln ent b : List ℕ} (r : Begin n D off ow
               (ap (pointsIn (set ver (k - 1) (getD nbr e 0)) (set ln (k - 1) (length E)) (k - 1) 1) (sym (append-nil E)) ∙
               points-more ver ln (k - 1) 0 (getD nbr e 0) E [] (omega (arith, r .ver-size, r .byte)) (omega (arith, r .ln-size, r .byte)) ∙
               none-left ver ln (suc (k - 1)) _ ∙ ap (λ v. record { vertex = v; entries = E } ∷ []) top-is)
+
+          fitting : Fitting (set ln (k - 1) (768 - s)) (suc (n - 2)) (n - suc (n - 2)) (drop s ent′)
+          fitting =
+              let index : suc (n - 2) ≡ k - 1 = omega (arith, r .valid .four) in
+              let count : n - suc (n - 2) ≡ 1 = omega (arith, r .valid .four) in
+              rw (count, index, ent-is, len-is)
+              (subst (Fitting (set ln (k - 1) (length E)) (k - 1) 1) (append-nil E)
+              (fitting-more ln (k - 1) 0 E [] (omega (arith, r .ln-size, r .byte)) (fitting-none ln (suc (k - 1)) [])))

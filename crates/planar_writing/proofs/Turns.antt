@@ -9,7 +9,8 @@ use lib.ListN.{length, getD, take, drop, set, length-map, length-append, length-
 use lib.Seq.{drop-cons, drop-drop, getD-take, getD-drop, length-take-le, sets}
 use Rattle.words.specs.Bytes.{withWord}
 use Rattle.words.specs.Writing.{Pasted, Stored, stored-next, Ahead, ahead-all, ahead-as, ahead-word, ahead-part, ahead-none}
-use Rattle.planar_writing.specs.Words.{numbersOf, pointWords, pointsWords, Fitting}
+use Rattle.planar_numbering.specs.Points.{Fitting}
+use Rattle.planar_writing.specs.Words.{numbersOf, pointWords, pointsWords}
 
 -- ---- the entries of a point
 

@@ -3,6 +3,7 @@ use Prim.Native.Nat.{ℕ, zero, suc, _*_, _<_, _≤_}
 use mathlib.Core.Path.{_≡_}
 use mathlib.Core.List.{List, [], _∷_, _++_, map}
 use lib.ListN.{length, getD, take, drop}
+use Rattle.planar_numbering.specs.Points.{Fitting}
 use Rattle.rules.specs.Records.{orderMark, entriesMark, endMark}
 
 -- the point numbers of some vertices
@@ -21,11 +22,6 @@ pointsWords num ln i (suc c) l = pointWords num (take (getD ln i 0) l) ++ points
 -- the whole file
 abbrev pub orderWords : ℕ → List ℕ → List ℕ → List ℕ → List ℕ
 orderWords n num ln l = orderMark ∷ n ∷ (pointsWords num ln 0 n l ++ (endMark ∷ []))
-
--- none of the points has more entries than are left
-unfoldable pub Fitting : List ℕ → ℕ → ℕ → List ℕ → Type 0
-Fitting ln i zero l = Unit {0}
-Fitting ln i (suc c) l = (getD ln i 0 ≤ length l) × Fitting ln (suc i) c (drop (getD ln i 0) l)
 
 -- the arrays of n numbered points, and room for both outputs
 pub record Puttable (order list : List ℕ) (n : ℕ) (ver ln ent : List ℕ) (s : ℕ) (num : List ℕ) : Type 0 where

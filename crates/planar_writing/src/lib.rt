@@ -9,7 +9,8 @@ ghost use Prim.Native.Nat.{ℕ, suc, _+_, _*_, _<_, _≤_};
 ghost use lib.ListN.{length, getD, take, drop};
 ghost use Rattle.rules.specs.Records.{bytesOf};
 ghost use Rattle.words.specs.Writing.{Pasted, Stored};
-ghost use Rattle.planar_writing.specs.Words.{numbersOf, pointWords, pointsWords, orderWords, Fitting, Puttable};
+ghost use Rattle.planar_numbering.specs.Points.{Fitting};
+ghost use Rattle.planar_writing.specs.Words.{numbersOf, pointWords, pointsWords, orderWords, Puttable};
 
 // The point number of the vertex ent[at].
 fn number_at(ent: &[u8; 768], at: usize, num: &[u8; 256]) -> u16

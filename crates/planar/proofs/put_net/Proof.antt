@@ -32,9 +32,10 @@ returns c =
     let p = c .before .before .before .before in
     let w = p .before .before .before .before .before in
     let g = w .before .before .before in
-    let s = g .before .before .before .before .before .before .before in
-    (order-stored (s .pre .0 .1) (g .number-net .ensures) (w .wide .ensures .0) (p .put-both .ensures .0),
-    list-stored (s .pre .0 .1) (g .number-net .ensures) (w .wide .ensures .0) (p .put-both .ensures .1))
+    let s = g .before .before .before .before .before .before .before in (
+      order-stored (s .pre .0 .1) (g .number-net .ensures) (w .wide .ensures .0) (p .put-both .ensures .0),
+      list-stored (s .pre .0 .1) (g .number-net .ensures) (w .wide .ensures .0) (p .put-both .ensures .1),
+    )
 
 pub put-net-spec : {M : Type 1} → statement M
 put-net-spec =
