@@ -1,5 +1,6 @@
 //! Orders and lists of calls for tests: random ones from fixed seeds, and every order of a few points.
 
+pub mod faulty_nets;
 pub mod nets;
 
 use crate::drawing::{open, Drawing};

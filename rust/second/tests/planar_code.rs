@@ -4,7 +4,8 @@ mod stored;
 
 use std::collections::BTreeSet;
 
-use second::generate::nets::{faulty_net, net, net_by, Shape, FAULTS, SHAPES};
+use second::generate::faulty_nets::{faulty_net, FAULTS};
+use second::generate::nets::{net, net_by, Shape, SHAPES};
 use second::generate::Random;
 use second::planar_code::{import, import_into, read, Imported, Net};
 use second::{order_file, Kind, Line, Refusal, STYLES};

@@ -13,6 +13,7 @@ mod calls_all_moves;
 mod calls_lookups;
 mod calls_move;
 mod damage;
+mod damaged_nets;
 mod feeders;
 mod import;
 mod lookups;

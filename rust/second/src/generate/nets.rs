@@ -1,4 +1,4 @@
-//! Nets for tests: random ones from fixed seeds, regular families, and nets that aren't taken.
+//! Nets for tests: random ones from fixed seeds, and regular families.
 
 use super::Random;
 use crate::planar_code::{Net, OPENING};
@@ -65,9 +65,41 @@ pub fn net_by(choices: &[u8]) -> Net {
     net
 }
 
+/// Every net with the same neighbours of each vertex and the same first neighbour, in every order of the
+/// others.
+pub fn all_orders_of_lists(net: &Net) -> Vec<Net> {
+    let mut nets = vec![Net { lists: Vec::new() }];
+    for list in &net.lists {
+        let lists = all_orders_of(&list[1..]);
+        let with = |net: &Net, rest: &Vec<u8>| {
+            let mut net = net.clone();
+            net.lists.push([&list[..1], rest].concat());
+            net
+        };
+        let longer = |net| lists.iter().map(move |rest| with(net, rest));
+        nets = nets.iter().flat_map(longer).collect();
+    }
+    nets
+}
+
+/// A list in every order.
+fn all_orders_of(list: &[u8]) -> Vec<Vec<u8>> {
+    if list.is_empty() {
+        return vec![Vec::new()];
+    }
+    let mut orders = Vec::new();
+    for at in 0..list.len() {
+        let others = [&list[..at], &list[at + 1..]].concat();
+        for rest in all_orders_of(&others) {
+            orders.push([&list[at..=at], &rest].concat());
+        }
+    }
+    orders
+}
+
 /// The net that has these faces, each by its vertices in turn, so that each side of a line is a side of
 /// one face: the first vertex of a face lists the third next after the second.
-fn from_faces(faces: &[[u8; 3]]) -> Net {
+pub(super) fn from_faces(faces: &[[u8; 3]]) -> Net {
     let mut listed_after = [[0; 256]; 256];
     for &[a, b, c] in faces {
         for [v, w, next] in [[a, b, c], [b, c, a], [c, a, b]] {
@@ -120,75 +152,6 @@ fn strip(rings: u8) -> Net {
     from_faces(&faces)
 }
 
-/// Seven vertices on a torus, each joined to all others; every face has three sides.
-fn torus() -> Net {
-    let on = |v: u8, step: u8| (v - 1 + step) % 7 + 1;
-    let faces = (1..=7).flat_map(|v| [[v, on(v, 1), on(v, 3)], [v, on(v, 3), on(v, 2)]]);
-    from_faces(&faces.collect::<Vec<_>>())
-}
-
-/// The condition that fails, and no other as far as that can be.
-#[derive(Clone, Copy, Debug, PartialEq, Eq)]
-pub enum Fault {
-    /// "no list names its own vertex"
-    OwnVertex,
-    /// "or one vertex twice": a line is turned to where there is one already.
-    Twice,
-    /// "every line stands in both lists": one list lacks a neighbour.
-    OneList,
-    /// "all is connected": a torus beside a net that would be taken.
-    Apart,
-    /// "there are 3n - 6 lines": a torus, which has 3n.
-    LineCount,
-    /// "every face has three sides": two neighbours are exchanged.
-    Face,
-}
-
-/// All of them.
-pub const FAULTS: [Fault; 6] = [
-    Fault::OwnVertex,
-    Fault::Twice,
-    Fault::OneList,
-    Fault::Apart,
-    Fault::LineCount,
-    Fault::Face,
-];
-
-/// A net of n vertices, n from 10 to 255, with a fault; else as [`net`] makes them.
-pub fn faulty_net(n: u8, fault: Fault, random: &mut Random) -> Net {
-    match fault {
-        Fault::Apart => apart(n, random).mixed(random),
-        Fault::LineCount => {
-            let mut net = torus();
-            net.grow(n, random);
-            net.mixed(random)
-        }
-        Fault::Twice => {
-            let mut net = net(n, Shape::Stacked, random);
-            net.double_line(random);
-            net
-        }
-        Fault::OwnVertex | Fault::OneList | Fault::Face => {
-            let mut net = net(n, Shape::Turned, random);
-            net.spoil_list(fault, random);
-            net
-        }
-    }
-}
-
-/// A torus of some of the vertices beside a net of the others.
-fn apart(n: u8, random: &mut Random) -> Net {
-    let on_torus = random.between(7, usize::from(n) - 3) as u8;
-    let mut net = torus();
-    net.grow(on_torus, random);
-    let mut beside = from_faces(&[[1, 2, 3], [1, 3, 2]]);
-    beside.grow(n - on_torus, random);
-    for list in beside.lists {
-        net.lists.push(list.iter().map(|v| v + on_torus).collect());
-    }
-    net
-}
-
 impl Net {
     /// The file: the opening characters, n, "then for each vertex its neighbours in clockwise order, one
     /// byte each, ended by 0".
@@ -208,7 +171,7 @@ impl Net {
     }
 
     /// The net with its vertices numbered at random, each list begun at random, and perhaps mirrored.
-    fn mixed(self, random: &mut Random) -> Net {
+    pub(super) fn mixed(self, random: &mut Random) -> Net {
         let mut numbers: Vec<u8> = (1..=self.n()).collect();
         for last in (1..numbers.len()).rev() {
             numbers.swap(last, random.below(last + 1));
@@ -234,7 +197,7 @@ impl Net {
     }
 
     /// Puts vertices into random faces until there are n.
-    fn grow(&mut self, n: u8, random: &mut Random) {
+    pub(super) fn grow(&mut self, n: u8, random: &mut Random) {
         while self.n() < n {
             let (v, w) = self.random_side(random);
             self.insert(v, w);
@@ -259,7 +222,7 @@ impl Net {
     }
 
     /// The third vertices of the two faces of a line.
-    fn beside(&self, v: u8, w: u8) -> [u8; 2] {
+    pub(super) fn beside(&self, v: u8, w: u8) -> [u8; 2] {
         [self.listed_after(w, v), self.listed_after(v, w)]
     }
 
@@ -273,41 +236,12 @@ impl Net {
     }
 
     /// The same, also if they are joined.
-    fn turn_anyway(&mut self, v: u8, w: u8) {
+    pub(super) fn turn_anyway(&mut self, v: u8, w: u8) {
         let [one, two] = self.beside(v, w);
         self.list_after(one, w, two);
         self.list_after(two, v, one);
         self.lists[usize::from(v) - 1].retain(|&x| x != w);
         self.lists[usize::from(w) - 1].retain(|&x| x != v);
-    }
-
-    /// Turns a random line whose other two corners are joined already. A stacked net has some: all lines of
-    /// the vertex that came last.
-    fn double_line(&mut self, random: &mut Random) {
-        let mut sides: Vec<(u8, u8)> = self.ends().collect();
-        let start = random.below(sides.len());
-        sides.rotate_left(start);
-        let found = sides.into_iter().find(|&(v, w)| {
-            let [one, two] = self.beside(v, w);
-            self.neighbours(one).contains(&two)
-        });
-        let (v, w) = found.expect("a stacked net");
-        self.turn_anyway(v, w);
-    }
-
-    /// Puts a random vertex into its own list, takes one out of a list, or exchanges two.
-    fn spoil_list(&mut self, fault: Fault, random: &mut Random) {
-        let vertex = random.below(self.lists.len());
-        let list = &mut self.lists[vertex];
-        let at = random.below(list.len());
-        let next = (at + 1) % list.len();
-        match fault {
-            Fault::OwnVertex => list.insert(at, vertex as u8 + 1),
-            Fault::OneList => {
-                list.remove(at);
-            }
-            _ => list.swap(at, next),
-        }
     }
 }
 
@@ -331,7 +265,6 @@ mod tests {
         assert_eq!(degrees(row(7)), [6, 6, 3, 4, 4, 4, 3]);
         assert_eq!(degrees(strip(2)), [4; 6]);
         assert_eq!(degrees(strip(4)), [4, 4, 4, 6, 6, 6, 6, 6, 6, 4, 4, 4]);
-        assert_eq!(degrees(torus()), [6; 7]);
     }
 
     // Every shape and n: n lists, and a file of 7n + 4 bytes; the mirrored net is taken too.
@@ -357,6 +290,19 @@ mod tests {
         assert!((0..200).map(made(Shape::Turned)).any(|few| few > Some(3)));
     }
 
+    // A net that is taken is so seen from the front and from behind, and with its lists in no other order.
+    #[test]
+    fn two_orders_of_lists_are_taken() {
+        let taken = |net: &Net| {
+            let nets = all_orders_of_lists(net);
+            let count = nets.iter().filter(|net| net.is_taken()).count();
+            (nets.len(), count)
+        };
+        assert_eq!(taken(&row(4)), (16, 2));
+        assert_eq!(taken(&row(5)), (864, 2));
+        assert_eq!(taken(&strip(2)), (46_656, 2));
+    }
+
     // Any bytes choose a net that is taken.
     #[test]
     fn bytes_choose_nets() {
@@ -369,41 +315,5 @@ mod tests {
             largest = largest.max(net.n());
         }
         assert_eq!(largest, 255);
-    }
-
-    /// The condition that fails first, and whether those after it hold, as far as they can be asked.
-    fn failing(net: &Net) -> (&'static str, bool) {
-        if !net.names_others_once() {
-            return ("names", true);
-        }
-        if !net.is_in_both_lists() {
-            return ("both lists", net.is_connected());
-        }
-        let [count, faces] = [net.has_3n_minus_6_lines(), net.has_faces_of_three()];
-        match [net.is_connected(), count, faces] {
-            [false, ..] => ("connected", count && faces),
-            [true, false, _] => ("line count", faces),
-            [true, true, _] => ("faces", !faces),
-        }
-    }
-
-    // Each fault fails its own condition, and those that can be asked after it hold.
-    #[test]
-    fn faults_are_what_they_say() {
-        let mut random = Random::new(4);
-        for n in (10..60).chain([255]) {
-            for fault in FAULTS {
-                let net = faulty_net(n, fault, &mut random);
-                assert!(net.n() == n && !net.is_taken());
-                let first = match fault {
-                    Fault::OwnVertex | Fault::Twice => "names",
-                    Fault::OneList => "both lists",
-                    Fault::Apart => "connected",
-                    Fault::LineCount => "line count",
-                    Fault::Face => "faces",
-                };
-                assert_eq!(failing(&net), (first, true), "{fault:?} in {net:?}");
-            }
-        }
     }
 }
