@@ -60,17 +60,21 @@ printf "$octahedron" | target/import_c | target/draw_c | wc -c | diff - <(echo 1
 printf '%s' '>>planar_code<<' | target/import_c | diff - <(echo 'refused 14 at 0')
 cat examples/planar_code/planarg_04_01.pc examples/planar_code/planarg_05_01.pc | target/import_c | diff - <(echo 'refused 14 at 0')
 target/import_c vertices <examples/planar_code/no_cube.pc | diff - <(echo 'refused 15 at 0')
-# The programs write what the library writes, and their order files are drawn, from every stored net; of a longer input they judge
-# the first 32,768 bytes.
+# The programs write what the library writes, and their order files are drawn, from every stored net.
 for net in examples/planar_code/*.pc; do
     target/import_c <"$net" | cmp - <(target/bin/import <"$net")
     target/import_c vertices <"$net" | cmp - <(target/bin/import_vertices <"$net")
     target/bin/import <"$net" | target/bin/draw | cmp - <(target/import_c <"$net" | target/draw_c)
 done
-for length in 32767 32768 32769 100000; do
-    long() { cat examples/planar_code/planarg_04_01.pc && head -c "$length" /dev/zero; }
-    long | target/bin/import | diff - <(echo 'refused 14 at 0')
-    long | target/bin/import_vertices | cmp - <(long | target/import_c vertices)
+# They judge the first 32,768 bytes as the whole file: four lists that end there give 15, whatever follows, and one byte less 14.
+long() {
+    printf '>>planar_code<<\4' && head -c 32748 /dev/zero | tr '\0' '\1' && head -c "$1" /dev/zero
+}
+for zeros in 3 4 5 70000; do
+    wanted="refused $((zeros < 4 ? 14 : 15)) at 0"
+    for program in target/bin/import target/bin/import_vertices target/import_c; do
+        long $zeros | "$program" | diff - <(echo "$wanted")
+    done
 done
 if target/draw_c <examples/k4.order >/dev/full 2>/dev/null; then
     echo "compare.sh: draw_c does not tell a failed write" >&2
