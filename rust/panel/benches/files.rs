@@ -21,6 +21,7 @@ fn main() {
     println!("Both sides and both styles take turns on the same order file, or its drawings,");
     println!("and write into the same buffers, which are kept from call to call and not cleared.");
     println!("The last column has what the straight style takes for what the other takes.");
+    println!("Importing a net has no style.");
     for (runs, name) in [
         (Runs::Short, "random short runs"),
         (Runs::Whole, "runs over the whole boundary"),

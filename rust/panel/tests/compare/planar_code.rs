@@ -104,6 +104,27 @@ fn stored_files() {
     });
 }
 
+// The files of the worked cases of request 4, which the second implementation answers as they say.
+#[test]
+fn worked_cases() {
+    let text = include_str!("../../../second/tests/vectors-requests.txt");
+    let rows = text
+        .lines()
+        .filter_map(|line| line.strip_prefix("  in    "));
+    let files = rows.filter(|digits| digits.starts_with("3e3e706c616e6172"));
+    let byte = |two: &[u8]| u8::from_str_radix(str::from_utf8(two).unwrap(), 16).unwrap();
+    let files: Vec<Vec<u8>> = files
+        .map(|digits| digits.as_bytes().chunks(2).map(byte).collect())
+        .collect();
+    assert_eq!(files.len(), 25);
+    once("nets, the worked cases of request 4", |tally| {
+        for file in &files {
+            agree(file, tally);
+            keeps(compare_import(file, &rooms(4)).map(|_| ()));
+        }
+    });
+}
+
 /// Random nets of every shape and mirrored, so many of each, of the sizes that `size` gives.
 fn random_nets(what: &str, seed: u64, count: u64, size: impl Fn(&mut Random) -> usize) {
     once(what, |tally| {
