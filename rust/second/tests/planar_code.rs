@@ -107,14 +107,16 @@ fn refused(file: &[u8]) -> u16 {
     number
 }
 
-// Each condition broken: 15, and 14 if a byte is missing or left over.
+// Each condition broken, and mirrored: 15, and 14 if a byte is missing or left over.
 #[test]
 fn faulty_nets_give_15() {
     let mut random = Random::new(203);
     for n in (10..=60).chain([128, 255]) {
         for fault in FAULTS {
-            let bytes = faulty_net(n, fault, &mut random).bytes();
+            let net = faulty_net(n, fault, &mut random);
+            let bytes = net.bytes();
             assert_eq!(refused(&bytes), 15);
+            assert_eq!(refused(&net.mirrored().bytes()), 15);
             assert_eq!(refused(&bytes[..bytes.len() - 1]), 14);
             assert_eq!(refused(&[&bytes[..], &[0]].concat()), 14);
         }

@@ -8,17 +8,19 @@ use second::planar_code::OPENING;
 use crate::planar_code::{agree, refused};
 use crate::tally::once;
 
-// Each condition broken: 15; the torus of seven points beside a triangle, the smallest that isn't
-// connected, is among them. With a byte missing or left over 14 comes first.
+// Each condition broken, and mirrored: 15; the torus of seven points beside a triangle, the smallest that
+// isn't connected, is among them. With a byte missing or left over 14 comes first.
 #[test]
 fn faulty_nets() {
     once("nets, each condition broken", |tally| {
-        for round in 0..tally.rounds(8) {
+        for round in 0..tally.rounds(4) {
             let mut random = Random::new(157_000 + round);
             for n in (10..=40).chain([100, 255]) {
                 for fault in FAULTS {
-                    let file = faulty_net(n, fault, &mut random).bytes();
+                    let net = faulty_net(n, fault, &mut random);
+                    let file = net.bytes();
                     refused(&file, 15, tally);
+                    refused(&net.mirrored().bytes(), 15, tally);
                     refused(&file[..file.len() - 1], 14, tally);
                     refused(&[&file[..], &[0]].concat(), 14, tally);
                 }

@@ -172,21 +172,30 @@ impl Net {
 
     /// The net with its vertices numbered at random, each list begun at random, and perhaps mirrored.
     pub(super) fn mixed(self, random: &mut Random) -> Net {
-        let mut numbers: Vec<u8> = (1..=self.n()).collect();
-        for last in (1..numbers.len()).rev() {
-            numbers.swap(last, random.below(last + 1));
-        }
-        let mut net = self.clone();
-        for (list, number) in self.lists.iter().zip(&numbers) {
-            let renamed = list.iter().map(|&w| numbers[usize::from(w) - 1]);
-            let mut renamed: Vec<u8> = renamed.collect();
-            renamed.rotate_left(random.below(list.len()));
-            net.lists[usize::from(*number) - 1] = renamed;
+        let mut net = self.renumbered(random);
+        for list in &mut net.lists {
+            let start = random.below(list.len());
+            list.rotate_left(start);
         }
         match random.below(2) {
             0 => net,
             _ => net.mirrored(),
         }
+    }
+
+    /// The net with its vertices numbered at random.
+    pub(super) fn renumbered(self, random: &mut Random) -> Net {
+        let mut numbers: Vec<u8> = (1..=self.n()).collect();
+        for last in (1..numbers.len()).rev() {
+            numbers.swap(last, random.below(last + 1));
+        }
+        let number = |v: u8| numbers[usize::from(v) - 1];
+        let mut net = self.clone();
+        for (list, v) in self.lists.into_iter().zip(1..) {
+            let renamed = list.into_iter().map(number).collect();
+            net.lists[usize::from(number(v)) - 1] = renamed;
+        }
+        net
     }
 
     /// A vertex and one of its neighbours, at random.
