@@ -1,15 +1,16 @@
 /* What target/staticlib/libpanel_c.a offers to C and C++; `rt staticlib panel_c` makes it.
    Files, numbers and places are those of document 01 (../shared/01-scope.md). README.md says what to do about each refusal.
    An order file is drawn in one of two styles: `panel_X` draws lines with one bend at most, `panel_straight_X` straight lines.
+   `panel_import` makes the order file of a net from a graph generator.
 
    Lengths count bytes, or 16-bit words or floats where the pointer is one to these. No pointer may be null, also with length 0.
-   What a function writes to (`out`, `answers`, `kinds`, `at`, `place`, `line`, `refusal`) may not overlap anything else that it
-   is given.
+   What a function writes to (`out`, `order` and `vertices` of `panel_import`, `answers`, `kinds`, `at`, `place`, `line`,
+   `refusal`) may not overlap anything else that it is given.
    A call takes no heap and at most 80 KB of stack, the same for every n. Nothing is kept from one call to the next.
 
    Every call fills `refusal`, with zeros if nothing is refused.
-   A refusal leaves `out`, `kinds`, `at`, `place` and `line` as they were. In the functions on lists of calls, 3 and 24 for
-   short answers leave `answers` too; every other refusal comes after the answers were written.
+   A refusal leaves `out`, `order`, `vertices`, `kinds`, `at`, `place` and `line` as they were. In the functions on lists of
+   calls, 3 and 24 for short answers leave `answers` too; every other refusal comes after the answers were written.
    Bytes, words and floats past the written ones stay. */
 #ifndef PANEL_H
 #define PANEL_H
@@ -34,6 +35,14 @@
 #define PANEL_LONGEST_DRAWING 42948
 #define PANEL_LONGEST_STRAIGHT 30684
 #define PANEL_ORDER_INPUT 32768
+
+/* The range of n of a net in planar_code, the bytes of its order file, the bytes of the longest file in planar_code that is
+   taken (one of n vertices has 7n + 4), and how many bytes the program `import` judges as the whole file. */
+#define PANEL_FEWEST_VERTICES 4
+#define PANEL_MOST_VERTICES 255
+#define PANEL_IMPORTED_LENGTH(n) (10 * (n) - 6)
+#define PANEL_LONGEST_PLANAR_CODE 1789
+#define PANEL_PLANAR_CODE_INPUT 32768
 
 /* The words of an answer: number and place. */
 #define PANEL_ANSWER_WORDS 2
@@ -61,16 +70,19 @@ struct panel_refusal {
 #define PANEL_OTHER_DRAWING 11
 #define PANEL_BAD_TOOL 12
 #define PANEL_BOTH_MARKS 13
+#define PANEL_BAD_CODE 14
+#define PANEL_NO_NET 15
 #define PANEL_FINISHED 21
 #define PANEL_UNFINISHED 22
 #define PANEL_NO_SUCH 23
 #define PANEL_OUTPUT_SHORT 24
 #define PANEL_NO_REACH 25
 
-/* Which buffer was short: `out` or `kinds`, `answers`, `at`. */
+/* Which buffer was short: `out`, `kinds` or the `order` of an import, `answers`, `at`, `vertices`. */
 #define PANEL_SHORT_OUT 1
 #define PANEL_SHORT_ANSWERS 2
 #define PANEL_SHORT_AT 3
+#define PANEL_SHORT_VERTICES 4
 
 /* Kinds of move, 0 for a refusal. */
 #define PANEL_MOVE_TRAVEL 1
@@ -120,6 +132,16 @@ uint64_t panel_draw(const uint8_t *order, size_t order_length, uint8_t *out, siz
                     struct panel_refusal *refusal);
 uint64_t panel_undraw(const uint8_t *drawing, size_t drawing_length, uint8_t *out, size_t out_length,
                       struct panel_refusal *refusal);
+
+/* A net in planar_code to its order file: the number of bytes written to `order`, PANEL_IMPORTED_LENGTH(n), 0 for a refusal.
+   `vertices` gets n bytes, the file vertex of each point from point 1 on. The file is `>>planar_code<<`, n, and for each vertex
+   its neighbours clockwise, ended by 0. Vertex 1 becomes point 1, its first neighbour point 2, the next one point n.
+   Refused are, all with place 0: 14 if the bytes aren't one such net (other opening characters, n out of range, a neighbour
+   above n, bytes missing or left over); 15 if it isn't triangulated (a list names its own vertex or one vertex twice, a line
+   stands in one list only, not all is connected, there aren't 3n - 6 lines, a face hasn't three sides); 24 if `order` is too
+   short, then 24 if `vertices` is. Every other net is taken, and its order file can be drawn. */
+uint64_t panel_import(const uint8_t *file, size_t file_length, uint8_t *order, size_t order_length,
+                      uint8_t *vertices, size_t vertices_length, struct panel_refusal *refusal);
 
 /* Cutter move `number`, from 0, of the drawing of an order file: its kind.
    Travel and cut put x and y into `at`, plunge and lift the height and 0, in millimetres.

@@ -1,5 +1,6 @@
 #!/usr/bin/env bash
-# Fuzzes draw and undraw, in both styles, of the proved library against the second implementation: fuzz.sh SECONDS (60 if not given).
+# Fuzzes draw and undraw, in both styles, and the import of nets, of the proved library against the second implementation:
+# fuzz.sh SECONDS (60 if not given).
 # libFuzzer (Debian: clang, libclang-rt-14-dev) is guided by the coverage of the second implementation.
 # The corpus stays in target/fuzz/corpus; an input that differs is written to target/fuzz/found.
 set -eu
@@ -22,6 +23,6 @@ RUSTFLAGS="$coverage -Clink-arg=$runtime -Clink-arg=-lstdc++" \
 built=$place/$target/release
 mkdir -p "$place/seeds" "$place/corpus" "$place/found"
 "$built/seeds" "$place/seeds"
-cp ../../examples/*.order "$place/seeds"
+cp ../../examples/*.order ../../examples/planar_code/*.pc "$place/seeds"
 exec "$built/files" -max_total_time="$seconds" -max_len=1200 -dict=marks.dict -print_final_stats=1 \
     -artifact_prefix="$place/found/" "$place/corpus" "$place/seeds"

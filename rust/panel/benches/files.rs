@@ -1,14 +1,16 @@
 //! Times draw, undraw and all moves of the proved library and of the second implementation on the same
-//! files, in both styles of drawing.
+//! files, in both styles of drawing; and the import of nets, which has no style.
 
 use std::hint::black_box;
 use std::time::{Duration, Instant};
 
-use panel::{most_moves, straight};
+use panel::{imported_length, most_moves, straight, MOST_VERTICES};
+use second::generate::nets::{net, Shape};
 use second::generate::{order, Random, Runs};
-use second::{drawing_file, moves, order_file, Style, STYLES};
+use second::{drawing_file, moves, order_file, planar_code, Style, STYLES};
 
 const SIZES: [u16; 3] = [64, 256, 1024];
+const NET_SIZES: [u8; 3] = [64, 128, 255];
 const BATCHES: usize = 100;
 const BATCH: Duration = Duration::from_millis(1);
 
@@ -19,6 +21,7 @@ fn main() {
     println!("Both sides and both styles take turns on the same order file, or its drawings,");
     println!("and write into the same buffers, which are kept from call to call and not cleared.");
     println!("The last column has what the straight style takes for what the other takes.");
+    println!("Importing a net has no style.");
     for (runs, name) in [
         (Runs::Short, "random short runs"),
         (Runs::Whole, "runs over the whole boundary"),
@@ -30,6 +33,14 @@ fn main() {
             &format!("all moves, {name}"),
             files.iter().map(Files::moves),
         );
+    }
+    for (shape, name) in [
+        (Shape::Turned, "random nets"),
+        (Shape::Stacked, "vertices put into faces"),
+        (Shape::DoubleWheel, "double wheels"),
+        (Shape::Row, "rows between two hubs"),
+    ] {
+        print_imports(name, NET_SIZES.map(|n| import_times(n, shape)));
     }
 }
 
@@ -151,28 +162,58 @@ struct Time {
 type Times = [[Time; 2]; 2];
 
 /// The times of four calls in that order; in a style both sides must write the same.
-fn times<Out: Clone + PartialEq>(calls: [&dyn Call<Out>; 4], mut out: Out) -> Times {
-    let [one, two, three, four] = calls.map(|call| {
-        let mut out = out.clone();
-        let written = call(&mut out).expect("a file that is accepted");
-        (written, out)
-    });
+fn times<Out: Clone + PartialEq>(calls: [&dyn Call<Out>; 4], out: Out) -> Times {
+    let [one, two, three, four] = calls.map(|call| written(call, &out));
     assert!(one == three && two == four, "the two sides differ");
-    let mut batches = [(); 4].map(|()| Vec::new());
+    let [one, two, three, four] = in_turns(calls, out);
+    [[one, two], [three, four]]
+}
+
+/// What a call gives and writes.
+fn written<Out: Clone>(call: &dyn Call<Out>, out: &Out) -> (usize, Out) {
+    let mut out = out.clone();
+    let written = call(&mut out).expect("a file that is accepted");
+    (written, out)
+}
+
+/// The times of calls that take turns.
+fn in_turns<Out, const CALLS: usize>(
+    calls: [&dyn Call<Out>; CALLS],
+    mut out: Out,
+) -> [Time; CALLS] {
+    let mut batches = [(); CALLS].map(|()| Vec::new());
     for _ in 0..BATCHES {
         for (times, call) in batches.iter_mut().zip(calls) {
             times.push(batch(call, &mut out));
         }
     }
-    let [one, two, three, four] = batches.map(|mut times| {
+    batches.map(|mut times| {
         times.sort_by(f64::total_cmp);
         Time {
             best: times[0],
             middle: times[BATCHES / 2],
         }
-    });
-    [[one, two], [three, four]]
+    })
 }
+
+/// The times of importing a net by the proved library and by the second implementation.
+fn import_times(n: u8, shape: Shape) -> [Time; 2] {
+    let file = &net(n, shape, &mut Random::new(1)).bytes();
+    let calls: [&dyn Call<Imported>; 2] = [
+        &|(order, vertices)| panel::import_into(black_box(file), order, vertices).ok(),
+        &|(order, vertices)| planar_code::import_into(black_box(file), order, vertices).ok(),
+    ];
+    let out = (
+        vec![0; imported_length(MOST_VERTICES)],
+        vec![0; MOST_VERTICES],
+    );
+    let [proved, second] = calls.map(|call| written(call, &out));
+    assert!(proved == second, "the two sides differ");
+    in_turns(calls, out)
+}
+
+/// The order file and the vertices.
+type Imported = (Vec<u8>, Vec<u8>);
 
 /// Microseconds of one call, by the mean of a batch.
 fn batch<Out>(call: &dyn Call<Out>, out: &mut Out) -> f64 {
@@ -202,15 +243,32 @@ fn print_table(title: &str, times: impl Iterator<Item = Times>) {
     }
 }
 
+/// A row for each n of the nets of one shape.
+fn print_imports(name: &str, times: [[Time; 2]; 3]) {
+    println!("\nimport, {name}");
+    println!("     n               proved  growth               second  growth  second/proved");
+    let mut before = None;
+    for (n, now) in NET_SIZES.into_iter().zip(times) {
+        println!("{n:6} {}", sides(now, before));
+        before = Some(now);
+    }
+}
+
 /// The times of a style on both sides, each with the growth from the n before, and their ratio.
 fn row(style: usize, now: &Times, before: Option<&Times>) -> String {
+    let of_style = |times: &Times| times.map(|side| side[style]);
+    sides(of_style(now), before.map(of_style))
+}
+
+/// The times of both sides, each with the growth from those before, and their ratio.
+fn sides(now: [Time; 2], before: Option<[Time; 2]>) -> String {
     let [proved, second] = [0, 1].map(|side| {
-        let Time { best, middle } = now[side][style];
+        let Time { best, middle } = now[side];
         let growth = before.map_or(String::new(), |before| {
-            format!("x{:.1}", best / before[side][style].best)
+            format!("x{:.1}", best / before[side].best)
         });
         format!("{best:9.2} ({middle:8.2}) {growth:>7}")
     });
-    let ratio = now[1][style].best / now[0][style].best;
+    let ratio = now[1].best / now[0].best;
     format!("{proved} {second} {ratio:14.1}")
 }

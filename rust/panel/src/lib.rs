@@ -1,5 +1,5 @@
 //! Panel drawings by the proved library: order files to drawing files and back, lists of adding calls,
-//! look-ups of points and lines, and cutter moves.
+//! look-ups of points and lines, cutter moves, and order files from the nets of graph generators.
 //!
 //! An order file can be drawn in two styles. The functions here draw lines with one bend at most; those
 //! of the same names in [`straight`] draw straight lines, as wish 2 of document 02 says.
@@ -54,11 +54,14 @@
 //! assert_eq!(moves[6], Move::Cut(2.0, 1.0));
 //! # Ok::<(), Refusal>(())
 //! ```
+//!
+//! A net in planar_code becomes an order file by [`import`], as wish 4 of document 02 says.
 
 mod calls;
 mod files;
 mod lookups;
 mod moves;
+mod planar_code;
 pub mod raw;
 mod refusal;
 mod sizes;
@@ -70,8 +73,10 @@ pub use lookups::{
     calls_cut_line, calls_line, calls_point, cut_line, line, point, Bend, Kind, Line, Place,
 };
 pub use moves::{calls_move_at, calls_moves, move_at, moves, moves_into, Move, Tool};
+pub use planar_code::{import, import_into, Import};
 pub use refusal::Refusal;
 pub use sizes::{
-    drawing_length, line_count, most_moves, ANSWER_WORDS, FEWEST_POINTS, LONGEST_DRAWING,
-    LONGEST_ORDER, MOST_POINTS,
+    drawing_length, imported_length, line_count, most_moves, ANSWER_WORDS, FEWEST_POINTS,
+    FEWEST_VERTICES, LONGEST_DRAWING, LONGEST_ORDER, LONGEST_PLANAR_CODE, MOST_POINTS,
+    MOST_VERTICES,
 };

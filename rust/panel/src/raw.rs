@@ -2,12 +2,13 @@
 //! number, place, and with number 24 which buffer was short, else 0; all 0 for none.
 //!
 //! A function has a namesake for straight drawings, with the same parameters; only a line's words differ.
-//! [`ONE_BEND`] and [`STRAIGHT`] have the functions of each style.
+//! [`ONE_BEND`] and [`STRAIGHT`] have the functions of each style. [`panel_import`] draws nothing and has
+//! no namesake.
 
 /// The three words of a refusal.
 pub type Words = [u64; 3];
 
-/// The third word where the output was short; of all moves, the kinds.
+/// The third word where the output was short; of all moves, the kinds, and of an import, the order file.
 pub const SHORT_OUT: u64 = 1;
 
 /// The third word where the answers were short.
@@ -15,6 +16,9 @@ pub const SHORT_ANSWERS: u64 = 2;
 
 /// The third word where the numbers of all moves were short, and the kinds were not.
 pub const SHORT_AT: u64 = 3;
+
+/// The third word where the list of an import's vertices was short, and the order file's output was not.
+pub const SHORT_VERTICES: u64 = 4;
 
 /// What a look-up returns if it finds what was asked.
 pub const FOUND: u64 = 1;
@@ -363,6 +367,18 @@ extern "C" {
         answers_len: usize,
         line: usize,
         seen: *mut [u64; STRAIGHT_LINE_WORDS],
+        refusal: *mut Words,
+    ) -> u64;
+
+    /// Imports a net in planar_code: the number of bytes of its order file, with that file in `order` and
+    /// its vertices by point in `vertices`; or 0 and a refusal, which leaves both.
+    pub fn panel_import(
+        file: *const u8,
+        file_len: usize,
+        order: *mut u8,
+        order_len: usize,
+        vertices: *mut u8,
+        vertices_len: usize,
         refusal: *mut Words,
     ) -> u64;
 }

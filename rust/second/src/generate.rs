@@ -1,5 +1,8 @@
 //! Orders and lists of calls for tests: random ones from fixed seeds, and every order of a few points.
 
+pub mod faulty_nets;
+pub mod nets;
+
 use crate::drawing::{open, Drawing};
 use crate::entry::{FEEDER_BIT, GUIDE_BIT, POINT_BITS};
 use crate::records::{

@@ -28,6 +28,10 @@ pub const NOT_ITS_DRAWING: u16 = 11;
 pub const TOOL_NUMBER: u16 = 12;
 /// 13: an entry marked both guide and feeder.
 pub const BOTH_MARKS: u16 = 13;
+/// 14: wrong opening characters, n out of range, a neighbour above n, missing bytes or bytes left over.
+pub const BAD_CODE: u16 = 14;
+/// 15: a net that isn't taken.
+pub const NO_NET: u16 = 15;
 /// 21: adding when k = n.
 pub const FINISHED: u16 = 21;
 /// 22: drawing or moves wanted while k < n.

@@ -1,9 +1,11 @@
 //! Every case of vectors-requests.txt, which has the sections of the requests that have landed.
 
+mod nets;
 mod worked;
 
 use std::iter::Peekable;
 
+use nets::check_net;
 use second::moves::{all_moves, move_at, move_count, Move, Tool};
 use second::{drawing_file, open, order_file, Bend, Drawing, Kind, Refusal, Style};
 use worked::{cases, check_file, from_hex, text_of, Case};
@@ -248,4 +250,13 @@ fn every_case_of_request_2() {
 #[test]
 fn every_case_of_request_3() {
     assert_eq!(run_section(3), [0, 10, 25]);
+}
+
+// "Request 4: nets in planar_code"
+#[test]
+fn every_case_of_request_4() {
+    let text = text_of("vectors-requests.txt");
+    let cases = section(&text, 4);
+    assert_eq!(cases.len(), 26);
+    cases.iter().for_each(check_net);
 }

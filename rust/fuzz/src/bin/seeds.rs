@@ -1,8 +1,10 @@
-//! Writes order files with runs of every sort, and their drawing files in both styles, into a folder.
+//! Writes order files with runs of every sort, their drawing files in both styles, and nets of every shape,
+//! into a folder.
 
 use std::path::Path;
 use std::{env, fs, io};
 
+use second::generate::nets::{net, SHAPES};
 use second::generate::{order, Random, RUNS};
 use second::{drawing_file, order_file, STYLES};
 
@@ -19,6 +21,12 @@ fn main() -> io::Result<()> {
                 fs::write(folder.join(format!("{runs:?}-{n}-{style:?}.drawing")), file)?;
             }
             fs::write(folder.join(format!("{runs:?}-{n}.order")), order)?;
+        }
+    }
+    for shape in SHAPES {
+        for n in [4, 5, 6, 8, 12, 20] {
+            let net = net(n, shape, &mut Random::new(n.into())).bytes();
+            fs::write(folder.join(format!("{shape:?}-{n}.pc")), net)?;
         }
     }
     Ok(())

@@ -6,23 +6,28 @@ use std::time::Instant;
 use second::{Style, STYLES};
 
 /// Runs a test in each style, and writes how many cases it ran.
-pub fn in_each_style(what: &'static str, test: impl Fn(Style, &mut Tally)) {
+pub fn in_each_style(what: &str, test: impl Fn(Style, &mut Tally)) {
     for style in STYLES {
-        let mut tally = Tally {
-            what,
-            style,
-            cases: 0,
-            started: Instant::now(),
+        let word = match style {
+            Style::OneBend => "one-bend",
+            Style::Straight => "straight",
         };
-        test(style, &mut tally);
-        tally.say();
+        once(&format!("{word} {what}"), |tally| test(style, tally));
     }
 }
 
-/// Counts the cases of a test in one style.
+/// Runs a test that has no style, and writes how many cases it ran.
+pub fn once(what: &str, test: impl FnOnce(&mut Tally)) {
+    let mut tally = Tally {
+        cases: 0,
+        started: Instant::now(),
+    };
+    test(&mut tally);
+    tally.say(what);
+}
+
+/// Counts the cases of a test.
 pub struct Tally {
-    what: &'static str,
-    style: Style,
     cases: u64,
     started: Instant,
 }
@@ -43,14 +48,9 @@ impl Tally {
     }
 
     /// Writes the count to standard output, also where the test harness keeps back what is printed.
-    fn say(self) {
-        let style = match self.style {
-            Style::OneBend => "one-bend",
-            Style::Straight => "straight",
-        };
+    fn say(self, what: &str) {
         let line = format!(
-            "{style} {}: {} cases in {:.1} s\n",
-            self.what,
+            "{what}: {} cases in {:.1} s\n",
             self.cases,
             self.started.elapsed().as_secs_f64()
         );

@@ -37,7 +37,7 @@ pub fn from_hex(text: &str) -> Vec<u8> {
 }
 
 /// Hexadecimal digits of bytes.
-fn to_hex(bytes: &[u8]) -> String {
+pub fn to_hex(bytes: &[u8]) -> String {
     bytes.iter().map(|byte| format!("{byte:02x}")).collect()
 }
 
