@@ -1,5 +1,5 @@
-// What C and Rust call: numbers, slices and arrays only, and no `requires`. Each call is there twice, for drawings with bends and, named `panel_straight_..`, for straight ones.
-// Each call puts three words of a refusal into `refusal`: its number, its place, and at 24 which buffer was short, 1 the output (of moves: the kinds), 2 the answers or 3 the numbers of moves; all 0 for none.
+// What C and Rust call: numbers, slices and arrays only, and no `requires`. Each call on drawings is there twice, for those with bends and, named `panel_straight_..`, for straight ones.
+// Each call puts three words of a refusal into `refusal`: its number, its place, and at 24 which buffer was short, 1 the output (of moves: the kinds), 2 the answers, 3 the numbers of moves or 4 the list of vertices; all 0 for none.
 use rules::Style;
 ghost use Rattle.rules.specs.declared.Style.the-variants.{OneBend, Straight};
 ghost use Rattle.rules.specs.DrawingFile.{drawFile, orderBack};
@@ -7,6 +7,7 @@ ghost use Rattle.panel_words.specs.Words.{outputBuffer};
 ghost use Rattle.panel_asked.specs.Questions.{moveAsked, pointAsked, lineAsked, endsAsked, cutAsked};
 ghost use Rattle.panel_doors.specs.Exported.{Exported, CallsExported};
 ghost use Rattle.panel_doors.specs.Asked.{OrderAsked, CallsAsked};
+ghost use Rattle.panel_doors.specs.Imports.{ImportTold};
 ghost use Rattle.panel_doors.specs.Moves.{OrderMoves, CallsMoves};
 
 // Draws an order file: the number of bytes written.
@@ -455,4 +456,17 @@ pub extern "C" fn panel_straight_calls_cut_line(
     ensures { λ r. ⌜ CallsAsked Straight (cutAsked point) n (now (calls .entry)) (now (answers .entry)) (now (answers .exit)) (now (seen .entry)) (now (seen .exit)) r (now (refusal .exit)) ⌝ }
 {
     panel_doors::calls_cut_line(Style::Straight, n, calls, answers, point, seen, refusal)
+}
+
+// Reads a net in planar_code: its order file, and the list of its vertices by point. The number of bytes of the order file, 10n - 6; the list has n.
+#[no_mangle]
+pub extern "C" fn panel_import(
+    file: &[u8],
+    order: &mut [u8],
+    vertices: &mut [u8],
+    refusal: &mut [u64; 3],
+) -> u64
+    ensures { λ r. ⌜ ImportTold (now (file .entry)) (now (order .entry)) (now (vertices .entry)) (now (order .exit)) (now (vertices .exit)) r (now (refusal .exit)) ⌝ }
+{
+    panel_doors::import(file, order, vertices, refusal)
 }

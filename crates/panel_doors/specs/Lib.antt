@@ -1,3 +1,4 @@
 pub mod Exported
 pub mod Asked
 pub mod Moves
+pub mod Imports

@@ -1,5 +1,5 @@
 // What C and Rust call, for either style: for `panel_c`, which gives each call its style and its name. No `requires`.
-// Each call puts three words of a refusal into `refusal`: its number, its place, and at 24 which buffer was short, 1 the output (of moves: the kinds), 2 the answers or 3 the numbers of moves; all 0 for none.
+// Each call puts three words of a refusal into `refusal`: its number, its place, and at 24 which buffer was short, 1 the output (of moves: the kinds), 2 the answers, 3 the numbers of moves or 4 the list of vertices; all 0 for none.
 use panel_words::ANSWERS;
 use panel_words::NO_BUFFER;
 use panel_words::OUTPUT;
@@ -11,6 +11,7 @@ ghost use Rattle.panel_words.specs.Words.{outputBuffer};
 ghost use Rattle.panel_doors.specs.Exported.{Exported, CallsExported};
 ghost use Rattle.panel_doors.specs.Asked.{OrderAsked, CallsAsked};
 ghost use Rattle.panel_doors.specs.Moves.{OrderMoves, CallsMoves};
+ghost use Rattle.panel_doors.specs.Imports.{ImportTold};
 ghost use Rattle.panel_asked.specs.Questions.{moveAsked, pointAsked, lineAsked, endsAsked, cutAsked};
 
 // Draws an order file: the number of bytes written.
@@ -308,4 +309,12 @@ pub fn calls_cut_line(
     let answer = made.answer;
     let found = panel_asked::cut_from(answer, &table, made.counts, point);
     panel_told::tell_cut(found, ANSWERS, seen, refusal)
+}
+
+// Reads a net in planar_code: its order file, and the list of its vertices by point. The number of bytes of the order file, 10n - 6; the list has n.
+pub fn import(file: &[u8], order: &mut [u8], vertices: &mut [u8], refusal: &mut [u64; 3]) -> u64
+    ensures { λ r. ⌜ ImportTold (now (file .entry)) (now (order .entry)) (now (vertices .entry)) (now (order .exit)) (now (vertices .exit)) r (now (refusal .exit)) ⌝ }
+{
+    let imported = planar::import(file, order, vertices);
+    panel_told::tell_imported(imported, refusal)
 }

@@ -19,7 +19,9 @@ use Rattle.answers.specs.declared.Moved.{Moved}
 use Rattle.answers.specs.declared.Moved.the-variants as Moved
 use Rattle.answers.specs.declared.Listed.{Listed}
 use Rattle.answers.specs.declared.Listed.the-variants as Listed
-use Rattle.panel_words.specs.Words.{outputBuffer, numbersBuffer, bendKind, portOf}
+use Rattle.answers.specs.declared.Imported.{Imported}
+use Rattle.answers.specs.declared.Imported.the-variants as Imported
+use Rattle.panel_words.specs.Words.{noBuffer, outputBuffer, numbersBuffer, verticesBuffer, bendKind, portOf}
 use Rattle.panel_told.specs.Telling.{Given, withWords, alone}
 
 -- a file that was written: the number of its bytes
@@ -45,6 +47,20 @@ shortFor buffer (Listed.Moves k) = buffer
 shortFor buffer Listed.KindsShort = outputBuffer
 shortFor buffer Listed.NumbersShort = numbersBuffer
 shortFor buffer (Listed.Refused r p) = buffer
+
+-- an import: the bytes of its order file
+abbrev pub importGiven : Imported → Result (Given ℕ)
+importGiven (Imported.Sizes o l) = good (alone o)
+importGiven Imported.OrderShort = refused OutputShort 0
+importGiven Imported.ListShort = refused OutputShort 0
+importGiven (Imported.Refused r p) = refused r p
+
+-- the buffer that its 24 is of: the order file's, or that of the list of vertices
+abbrev pub importShort : Imported → ℕ
+importShort (Imported.Sizes o l) = noBuffer
+importShort Imported.OrderShort = outputBuffer
+importShort Imported.ListShort = verticesBuffer
+importShort (Imported.Refused r p) = noBuffer
 
 -- "in grid units, a point's place"
 abbrev pub pointGiven : PointSeen → Result (Given ℕ)

@@ -1,18 +1,21 @@
 // What C is told of an answer: a number, the words of the answer in the caller's array, and three words of a refusal, 0, 0, 0 for none.
 // A refusal is the number 0 and leaves the array. For `panel_c`, which has the answers.
 use answers::CutSeen;
+use answers::Imported;
 use answers::LineSeen;
 use answers::Listed;
 use answers::Moved;
 use answers::PointSeen;
 use answers::Written;
+use panel_words::NO_BUFFER;
 use panel_words::NUMBERS;
 use panel_words::OUTPUT;
+use panel_words::VERTICES;
 use rules::Line;
 use rules::Refusal;
 ghost use mathlib.Core.Path.{_≡_};
 ghost use Rattle.panel_told.specs.Telling.{codeOf, refusalOf, Tells};
-ghost use Rattle.panel_told.specs.Answers.{fileGiven, moveGiven, listGiven, shortFor, pointGiven, lineWords, lineGiven, endsWords, endsGiven, cutGiven};
+ghost use Rattle.panel_told.specs.Answers.{fileGiven, moveGiven, listGiven, shortFor, importGiven, importShort, pointGiven, lineWords, lineGiven, endsWords, endsGiven, cutGiven};
 
 // The number of bytes written.
 pub fn tell_written(written: Written, buffer: u64, refusal: &mut [u64; 3]) -> u64
@@ -66,6 +69,30 @@ pub fn tell_listed(listed: Listed, buffer: u64, refusal: &mut [u64; 3]) -> u64
         }
         Listed::Refused(r, p) => {
             panel_words::refuse(r, p, buffer, refusal);
+            0
+        }
+    }
+}
+
+// An import: the bytes of its order file. 24 tells which of the two buffers is short.
+pub fn tell_imported(imported: Imported, refusal: &mut [u64; 3]) -> u64
+    ensures { λ r. ⌜ (r ≡ codeOf (importGiven imported)) × (now (refusal .exit) ≡ refusalOf (importShort imported) (importGiven imported)) ⌝ }
+{
+    match imported {
+        Imported::Sizes(order, _) => {
+            *refusal = [0, 0, 0];
+            order as u64
+        }
+        Imported::OrderShort => {
+            panel_words::refuse(Refusal::OutputShort, 0, OUTPUT, refusal);
+            0
+        }
+        Imported::ListShort => {
+            panel_words::refuse(Refusal::OutputShort, 0, VERTICES, refusal);
+            0
+        }
+        Imported::Refused(r, p) => {
+            panel_words::refuse(r, p, NO_BUFFER, refusal);
             0
         }
     }

@@ -22,6 +22,9 @@ answersBuffer = 2
 abbrev pub numbersBuffer : ℕ
 numbersBuffer = 3
 
+abbrev pub verticesBuffer : ℕ
+verticesBuffer = 4
+
 -- which buffer was short: 0 unless the number is that of "24 output too short"
 abbrev pub shortOf : ℕ → Refusal → ℕ
 shortOf buffer r = if eqb (number r) (number OutputShort) then buffer else 0

@@ -13,6 +13,8 @@ pub const ANSWERS: u64 = 2;
 
 pub const NUMBERS: u64 = 3;
 
+pub const VERTICES: u64 = 4;
+
 // Which buffer was short: 0 unless the refusal is 24.
 fn short_of(r: Refusal, buffer: u64) -> u64
     ensures { λ v. ⌜ v ≡ shortOf buffer r ⌝ }
