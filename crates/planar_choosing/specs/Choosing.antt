@@ -2,7 +2,7 @@
 use Prim.Native.Nat.{ℕ, suc, _+_, _-_, _<_, _≤_}
 use mathlib.Core.Path.{_≡_, ap, sym, _∙_}
 use mathlib.Core.List.{List}
-use mathlib.Core.Bool.{Bool, true, false, _&&_, true≢false}
+use mathlib.Core.Bool.{Bool, true, false, _&&_, and-false}
 use native.Mathlib.Omega.{arith}
 use native.Mathlib.Numerals.{add-one}
 use native.Mathlib.Decide.{ℕ-discrete, decLt}
@@ -11,7 +11,6 @@ use lib.Seq.{getD-set-same, getD-set-other}
 use lib.Dec.{ltb}
 use borrow.Author.Tests.{lt-ltb, le-ltb}
 use Rattle.rules.specs.Basics.{indexOf}
-use Rattle.rules.specs.Bools.{both, is-false}
 use Rattle.rules.specs.Indices.{index-at}
 use Rattle.planar_rules.specs.PlanarCode.{Flat, lowest, free?, open?, Point}
 use Rattle.planar_sphere.specs.Flat.{Listed}
@@ -149,7 +148,7 @@ module _ (f : Flat) (l : Listed f) (off nbr b pos : List ℕ) (m : ℕ) (B : Lis
         | yes e ↦
             let k = no-pos v e in
             rw (le-ltb 1 (getD pos v 0) (omega arith), le-ltb (indexOf v B + 1) (length B) (omega arith))
-            (sym (is-false _ (λ t. true≢false (sym (both (ltb 0 (indexOf v B)) false t .1)))))
+            (sym (and-false (ltb 0 (indexOf v B))))
         | no ne ↦
             let Q : ℕ = getD pos v 0 in
             let w = pos-index v (omega (arith, ne)) in

@@ -19,7 +19,7 @@ use Rattle.planar_order.specs.Model.{Distinct}
 use Rattle.planar_order.specs.Step.{among, stateOf, apart, in-net, is-open, free-yes, its-arc, placed, hit, no-hit, p-in, p-some, E-length}
 use Rattle.planar_order.specs.Numbering.{Going, total, goes-on, fits}
 use Rattle.planar_judging.specs.Arrays.{flatOf}
-use Rattle.planar_choosing.specs.Choosing.{Apart, openIn, open-is, Chosen}
+use Rattle.planar_choosing.specs.Choosing.{Apart, Within, openIn, open-is, Chosen}
 use Rattle.planar_numbering.specs.Gathering.{Gatherable, Gathered}
 use Rattle.planar_numbering.specs.Boundary.{boundaryVertex, boundary-is}
 use Rattle.planar_numbering.specs.Points.{pointsFrom, points-length, points-more, Fitting, fitting-more}
@@ -87,7 +87,7 @@ module _ {n D : ℕ} {off own nbr b : List ℕ} {m k : ℕ} {ver ln ent : List �
   m-small = omega (arith, fits f l valid own0 B later (r .going), B-length, r .arrays .byte)
 
   -- what `choose` asks
-  pub choosable : (m ≤ 255) × Apart b m × ((v : ℕ) → v < n → (getD off v 0 ≤ getD off (v + 1) 0) × (getD off (v + 1) 0 ≤ 1536))
+  pub choosable : (m ≤ 255) × Apart b m × ((v : ℕ) → v < n → Within off v)
   choosable = (
     m-small,
     apart-b,

@@ -2,7 +2,7 @@
 use Prim.Native.Nat.{ℕ, zero, suc, _+_, _-_, _<_, _≤_}
 use mathlib.Core.Path.{_≡_, refl, ap, sym, _∙_}
 use mathlib.Core.List.{List, [], _∷_, _++_, append-assoc, append-nil, tail}
-use mathlib.Core.Bool.{true, false, false≢true}
+use mathlib.Core.Bool.{true, false, and-false}
 use native.Mathlib.Omega.{arith}
 use native.Mathlib.Numerals.{add-one}
 use native.Mathlib.Decide.{ℕ-discrete, decLe}
@@ -12,7 +12,7 @@ use lib.Dec.{eqb, leb}
 use borrow.Author.Tests.{eq-eqb, ne-eqb, le-leb, lt-leb}
 use Rattle.planar_rules.specs.PlanarCode.{begins?, opening, nOf, body, lists?, formed?, neighbours, owners, ends}
 use Rattle.planar_sphere.specs.Count.{clash}
-use Rattle.rules.specs.Bools.{both, is-false}
+use Rattle.rules.specs.Bools.{both}
 
 -- the i-th byte and the rest
 pub next-byte : (bs : List ℕ) (i : ℕ) → i < length bs → drop i bs ≡ getD bs i 0 ∷ drop (i + 1) bs
@@ -86,7 +86,7 @@ lists-done n (suc v) bs i l = rw (no-byte bs i l, ne-eqb (suc v) 0 (λ e. omega 
 -- shorter than its first 16 bytes: no n, or one of 0
 pub formed-short : (bs : List ℕ) → length bs < 16 → formed? bs ≡ false
 unfolding formed?
-formed-short bs l = rw (List·getD-eq-default bs 0 {n = 15} (omega arith)) (is-false _ (λ t. false≢true (both (begins? opening bs) false t .1)))
+formed-short bs l = rw (List·getD-eq-default bs 0 {n = 15} (omega arith)) (and-false (begins? opening bs))
 
 -- the opening is another
 pub formed-not : (bs : List ℕ) → begins? opening bs ≡ false → formed? bs ≡ false
