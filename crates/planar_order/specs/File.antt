@@ -1,18 +1,16 @@
 -- A well-formed file's lists stand one after another.
-use Prim.Native.Nat.{ℕ, zero, suc, _+_, _-_, _*_, _<_, _≤_}
-use mathlib.Core.Path.{_≡_, refl, ap, sym, _∙_}
-use mathlib.Core.Logic.{_≢_, _⊎_, inl, inr}
-use mathlib.Core.List.{List, [], _∷_, _++_}
-use mathlib.Core.Bool.{Bool, true, false, _&&_}
+use Prim.Native.Nat.{ℕ, zero, suc, _+_, _<_, _≤_}
+use mathlib.Core.Path.{_≡_, refl, _∙_}
+use mathlib.Core.List.{List, [], _∷_}
+use mathlib.Core.Bool.{true}
 use native.Mathlib.Omega.{arith}
 use native.Mathlib.Nat.{zero-add}
 use native.Mathlib.Numerals.{add-one}
 use lib.ListN.{length, getD}
 use lib.Dec.{leb}
-use borrow.Author.Tests.{leb-true}
 use Rattle.rules.specs.Basics.{between}
 use Rattle.rules.specs.Bools.{both, in-range}
-use Rattle.planar_rules.specs.PlanarCode.{Flat, netOf, nOf, body, opening, begins?, lists?, formed?, neighbours, owners, ends}
+use Rattle.planar_rules.specs.PlanarCode.{netOf, nOf, body, opening, begins?, lists?, formed?, neighbours, owners, ends}
 use Rattle.planar_sphere.specs.Count.{clash}
 use Rattle.planar_sphere.specs.Flat.{Listed}
 

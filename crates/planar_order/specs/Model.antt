@@ -1,15 +1,10 @@
 -- An order file's points over a plain list, the boundary from left to right: what the drawing rules ask of the entries.
-use Prim.Native.Nat.{ℕ, zero, suc, _+_, _-_, _*_, _<_, _≤_}
+use Prim.Native.Nat.{ℕ, zero, suc, _+_, _<_}
 use mathlib.Core.Path.{_≡_, refl, ap, sym, _∙_}
-use mathlib.Core.Logic.{_≢_, _⊎_, inl, inr}
 use mathlib.Core.List.{List, [], _∷_, _++_, map, append-assoc}
-use mathlib.Core.Bool.{Bool, true, false}
 use native.Mathlib.Omega.{arith}
-use native.Mathlib.Decide.{ℕ-discrete, decLt, decLe}
 use lib.ListN.{length, getD, take, drop, length-append, drop-of-length-le}
-use lib.Seq.{split-at, drop-cons, take-at, drop-at, getD-append-seam}
-use lib.Dec.{eqb}
-use borrow.Author.Tests.{eq-eqb, ne-eqb, eqb-true}
+use lib.Seq.{split-at, drop-cons}
 use Rattle.rules.specs.Basics.{indexOf}
 use Rattle.rules.specs.Indices.{index-at, index-le}
 use Rattle.planar_rules.specs.PlanarCode.{Point}
@@ -121,33 +116,3 @@ over-whole {k} {old} {run} {new} o e =
     let b = nil (o .before) (omega (arith, l)) in
     let a = nil (o .after) (omega (arith, l)) in
     o .run-is ∙ sym (o .old-is ∙ ap (λ x. x ++ (o .left ∷ (o .inner ++ (o .right ∷ o .after)))) b ∙ ap (λ x. o .left ∷ (o .inner ++ (o .right ∷ x))) a)
-
-pub over-two : {k : ℕ} {old run new : List ℕ} → Over k old run new → 2 ≤ length run
-over-two o = omega (arith, ap length (o .run-is), length-append (o .inner) (o .right ∷ []))
-
--- by indices, on a boundary without repeats: the run is what stands from its first entry on, and the new point stands between its first and its last
-pub over-at :
-    {k : ℕ} {old run new : List ℕ} (o : Over k old run new) → Distinct old → (l : ℕ) → l ≡ indexOf (getD run 0 0) old →
-    (take (length run) (drop l old) ≡ run) × (new ≡ take (l + 1) old ++ (k ∷ drop (l + (length run - 1)) old))
-over-at {k} {old} {run} {new} o d l el =
-    let b = length (o .before) in
-    let R = o .left ∷ (o .inner ++ (o .right ∷ [])) in
-    let r0 : getD run 0 0 ≡ o .left = ap (λ x. getD x 0 0) (o .run-is) in
-    let here : getD old b 0 ≡ o .left = ap (λ x. getD x b 0) (o .old-is) ∙ getD-append-seam (o .before) (o .left) (o .inner ++ (o .right ∷ o .after)) 0 in
-    let bl : b < length old = omega (arith, ap length (o .old-is), length-append (o .before) (o .left ∷ (o .inner ++ (o .right ∷ o .after)))) in
-    let lb : l ≡ b = el ∙ ap (λ v. indexOf v old) (r0 ∙ sym here) ∙ index-is old d b bl in
-    let split : old ≡ o .before ++ (R ++ o .after) = o .old-is ∙ ap (λ t. o .before ++ (o .left ∷ t)) (sym (append-assoc (o .inner) (o .right ∷ []) (o .after))) in
-    let rl : length run ≡ length R = ap length (o .run-is) in
-    let il : length R - 1 ≡ suc (length (o .inner)) = omega (arith, length-append (o .inner) (o .right ∷ [])) in
-    let i1 : b + 1 ≡ length (o .before ++ (o .left ∷ [])) = sym (length-append (o .before) (o .left ∷ [])) in
-    let s1 : old ≡ (o .before ++ (o .left ∷ [])) ++ (o .inner ++ (o .right ∷ o .after)) = o .old-is ∙ sym (append-assoc (o .before) (o .left ∷ []) (o .inner ++ (o .right ∷ o .after))) in
-    let t1 : take (b + 1) old ≡ o .before ++ (o .left ∷ []) = ap (take (b + 1)) s1 ∙ take-at (o .before ++ (o .left ∷ [])) (o .inner ++ (o .right ∷ o .after)) (b + 1) (sym i1) in
-    let s2 : old ≡ (o .before ++ (o .left ∷ o .inner)) ++ (o .right ∷ o .after) = o .old-is ∙ sym (append-assoc (o .before) (o .left ∷ o .inner) (o .right ∷ o .after)) in
-    let d2 : drop (b + suc (length (o .inner))) old ≡ o .right ∷ o .after =
-    ap (drop (b + suc (length (o .inner)))) s2 ∙ drop-at (o .before ++ (o .left ∷ o .inner)) (o .right ∷ o .after) (b + suc (length (o .inner))) (length-append (o .before) (o .left ∷ o .inner)) in (
-      ap (λ i. take (length run) (drop i old)) lb ∙ ap (take (length run)) (ap (drop b) split ∙ drop-at (o .before) (R ++ o .after) b refl) ∙ take-at R (o .after) (length run) (sym rl) ∙ sym (o .run-is),
-      o .new-is ∙ sym (append-assoc (o .before) (o .left ∷ []) (k ∷ o .right ∷ o .after)) ∙
-          ap (λ t. t ++ (k ∷ o .right ∷ o .after)) (sym t1) ∙ ap (λ t. take (b + 1) old ++ (k ∷ t)) (sym d2) ∙
-          ap (λ i. take (b + 1) old ++ (k ∷ drop (b + i) old)) (sym il ∙ ap (λ x. x - 1) (sym rl)) ∙
-          ap (λ i. take (i + 1) old ++ (k ∷ drop (i + (length run - 1)) old)) (sym lb),
-    )

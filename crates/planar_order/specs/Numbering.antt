@@ -1,24 +1,21 @@
 -- The numbering goes through: from point n down to point 3 there is always a vertex to take.
 use Prim.Native.Nat.{ℕ, zero, suc, _+_, _-_, _*_, _<_, _≤_}
 use mathlib.Core.Path.{_≡_, refl, ap, sym, _∙_}
-use mathlib.Core.Logic.{_≢_, _⊎_, inl, inr}
+use mathlib.Core.Logic.{_≢_}
 use mathlib.Core.List.{List, [], _∷_, _++_}
-use mathlib.Core.Bool.{Bool, true, false, not}
+use mathlib.Core.Bool.{false}
 use native.Mathlib.Omega.{arith}
-use native.Mathlib.Decide.{ℕ-discrete, decLt, decLe}
-use lib.ListN.{length, getD, take, drop}
-use lib.Dec.{eqb}
-use borrow.Author.Tests.{eq-eqb, ne-eqb, eqb-true}
+use native.Mathlib.Decide.{decLt}
+use lib.ListN.{length, getD}
 use Rattle.rules.specs.Basics.{indexOf}
-use Rattle.planar_rules.specs.PlanarCode.{Flat, after, back, place, run, next, Point, pointAt, comesOff, without, number, first, second, top, topPoint}
-use Rattle.planar_sphere.specs.Count.{clash, count, put, put-here, count-put, count-none, count-same}
+use Rattle.planar_rules.specs.PlanarCode.{Flat, after, back, place, run, next, Point, pointAt, comesOff, without, first, second, top, topPoint}
+use Rattle.planar_sphere.specs.Count.{count, put, count-put, count-none, count-same}
 use Rattle.planar_sphere.specs.Map.{Map, Net, turn}
-use Rattle.planar_sphere.specs.Shell.{Shell, Rim}
 use Rattle.planar_sphere.specs.Arc.{turn-zero, turn-suc, turn-in, turn-org}
-use Rattle.planar_sphere.specs.Flat.{Listed, map, once, before}
+use Rattle.planar_sphere.specs.Flat.{Listed, once, before}
 use Rattle.planar_sphere.specs.Check.{Valid, net-of, back-own, place-hit}
-use Rattle.planar_sphere.specs.Order.{sound, point-1, line-12, size}
-use Rattle.planar_sphere.specs.Program.{State, Is, Free, First, net-map, begins}
+use Rattle.planar_sphere.specs.Order.{sound, line-12, size}
+use Rattle.planar_sphere.specs.Program.{State, Is, Free, net-map, begins}
 use Rattle.planar_order.specs.Seqs.{gathers, new-length}
 use Rattle.planar_order.specs.Model.{Over, Chain, end, link, over, by-ends}
 use Rattle.planar_order.specs.Step.{among, stateOf, in-net, not-yet, is-line, each-line, is-open, free-yes, its-arc, p-some, E-length, E-left, E-right, is-next, one-more}

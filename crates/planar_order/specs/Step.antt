@@ -1,22 +1,22 @@
 -- One step of the numbering: the rules' boundary is a shell's, the lowest free vertex is there, and without it the boundary is a shell's again.
-use Prim.Native.Nat.{ℕ, zero, suc, _+_, _-_, _*_, _<_, _≤_}
+use Prim.Native.Nat.{ℕ, _+_, _-_, _<_, _≤_}
 use mathlib.Core.Path.{_≡_, refl, ap, sym, _∙_}
-use mathlib.Core.Logic.{_≢_, _⊎_, inl, inr}
-use mathlib.Core.List.{List, [], _∷_, _++_}
-use mathlib.Core.Bool.{Bool, true, false, not, _&&_, _||_}
+use mathlib.Core.Logic.{_≢_, inl, inr}
+use mathlib.Core.List.{List, [], _∷_}
+use mathlib.Core.Bool.{Bool, true, false, not, _&&_, _||_, or-true}
 use native.Mathlib.Omega.{arith}
 use native.Mathlib.Decide.{ℕ-discrete, decLt, decLe}
-use lib.ListN.{length, getD, take, drop}
+use lib.ListN.{length, getD}
 use lib.Dec.{eqb, ltb}
-use borrow.Author.Tests.{eq-eqb, ne-eqb, eqb-true, ltb-true, lt-ltb}
+use borrow.Author.Tests.{eq-eqb, eqb-true, ltb-true, lt-ltb}
 use Rattle.rules.specs.Basics.{if_then_else_, indexOf}
-use Rattle.rules.specs.Bools.{both}
-use Rattle.planar_rules.specs.PlanarCode.{Flat, all, after, back, place, run, lowest, gather, free?, open?, next, Point, pointAt, comesOff, without}
-use Rattle.planar_sphere.specs.Count.{bool, clash, count, put}
+use Rattle.rules.specs.Bools.{both, either}
+use Rattle.planar_rules.specs.PlanarCode.{Flat, all, back, place, run, free?, open?, next, Point, pointAt, without}
+use Rattle.planar_sphere.specs.Count.{count, put}
 use Rattle.planar_sphere.specs.Map.{Map, Net, turn, end}
 use Rattle.planar_sphere.specs.Shell.{Shell, Rim}
 use Rattle.planar_sphere.specs.Arc.{Arc, arc, some-step, on-arc, turn-in, turn-org}
-use Rattle.planar_sphere.specs.Flat.{Listed, map, round}
+use Rattle.planar_sphere.specs.Flat.{Listed, round}
 use Rattle.planar_sphere.specs.Check.{Valid, net-of, back-own, place-hit, true-and, or-not, not-or, all-true, true-all}
 use Rattle.planar_sphere.specs.Order.{sound}
 use Rattle.planar_sphere.specs.Program.{State, Is, Free, Goes, net-map, pick, goes, fewer}
@@ -32,17 +32,6 @@ among x (p ∷ ps) = if eqb x (p .vertex) then true else among x ps
 abbrev pub stateOf : List ℕ → List Point → State
 stateOf b later = record { gone = λ x. among x later; m = length b; w = λ x. getD b x 0 }
 
-or-case : (a b : Bool) → (a || b) ≡ true → (a ≡ true) ⊎ (b ≡ true)
-or-case true b t = inl refl
-or-case false b t = inr t
-
-or-left : (a b : Bool) → a ≡ true → (a || b) ≡ true
-or-left a b t = rw t
-
-or-right : (a b : Bool) → b ≡ true → (a || b) ≡ true
-or-right true b t = refl
-or-right false b t = t
-
 abbrev meets? : Flat → List ℕ → ℕ → ℕ → ℕ → Bool
 meets? f b t d l = eqb (f .own d) (getD b t 0) && eqb (f .nbr d) (getD b l 0)
 
@@ -55,7 +44,7 @@ free-yes f b later t h d l dl ll p q =
     let z = all-true (λ l. not (meets? f b t d l) || beside? t l) (length b)
     (all-true (λ d. all (λ l. not (meets? f b t d l) || beside? t l) (length b)) (f .D) h d dl) l ll in
     let y = or-not (meets? f b t d l) (beside? t l) z (true-and (eqb (f .own d) (getD b t 0)) _ (eq-eqb _ _ p) (eq-eqb _ _ q)) in
-    elim (or-case (eqb l (t + 1)) _ y) [ inl e ↦ inl (eqb-true _ _ e) | inr e ↦ inr (eqb-true _ _ e) ]
+    elim (either (eqb l (t + 1)) _ y) [ inl e ↦ inl (eqb-true _ _ e) | inr e ↦ inr (eqb-true _ _ e) ]
 
 pub yes-free : (f : Flat) (b : List ℕ) (later : List Point) (t : ℕ) → Free f (stateOf b later) t → free? f b t ≡ true
 unfolding free?
@@ -63,8 +52,8 @@ yes-free f b later t h =
     true-all _ (f .D) (λ d dl. true-all _ (length b) (λ l ll. not-or (meets? f b t d l) (beside? t l) (λ y.
     let w = both (eqb (f .own d) (getD b t 0)) _ y in
     elim (h d l dl ll (eqb-true _ _ (w .0)) (eqb-true _ _ (w .1))) [
-      | inl e ↦ or-left (eqb l (t + 1)) _ (eq-eqb _ _ e)
-      | inr e ↦ or-right (eqb l (t + 1)) _ (eq-eqb _ _ e)
+      | inl e ↦ rw (eq-eqb _ _ e)
+      | inr e ↦ rw (eq-eqb _ _ e) (or-true (eqb l (t + 1)))
     ])))
 
 module _ (f : Flat) (l : Listed f) (v : Valid f) where

@@ -1,32 +1,29 @@
 -- THE THEOREM: a file that passes the tests yields an order, and the order is one that the drawing rules take.
 use Prim.Native.Nat.{ℕ, zero, suc, _+_, _-_, _*_, _<_, _≤_}
 use mathlib.Core.Path.{_≡_, refl, ap, sym, _∙_}
-use mathlib.Core.Logic.{_≢_, _⊎_, inl, inr}
-use mathlib.Core.List.{List, [], _∷_, _++_, map}
-use mathlib.Core.Bool.{Bool, true, false, not}
+use mathlib.Core.Logic.{_≢_, inl, inr}
+use mathlib.Core.List.{List, [], _∷_, map}
+use mathlib.Core.Bool.{Bool, true, false}
 use native.Mathlib.Omega.{arith}
-use native.Mathlib.Decide.{ℕ-discrete, decLt, decLe}
-use lib.ListN.{length, getD, take, drop, length-map, length-append}
-use lib.Seq.{ext-getD}
+use lib.ListN.{length, getD, length-map, length-append}
 use lib.Dec.{eqb}
-use borrow.Author.Tests.{eq-eqb, ne-eqb, eqb-true, eqb-false}
+use borrow.Author.Tests.{eq-eqb, eqb-true}
 use Rattle.rules.specs.Basics.{if_then_else_, indexOf}
 use Rattle.rules.specs.Indices.{index-at, index-le}
 use Rattle.rules.specs.Entries.{wordOf}
 use Rattle.rules.specs.Records.{written, pointEntries, endShape, entriesMark}
 use Rattle.rules.specs.Lengths.{length-bytes}
-use Rattle.planar_rules.specs.PlanarCode.{Flat, netOf, formed?, taken?, back, next, Point, comesOff, without, number, first, second, top, topPoint, points, vertices, pointOf, plain, entryWords, records, orderFile, nOf, vertexList}
-use Rattle.planar_sphere.specs.Count.{bool, clash, count, count-max, put, put-here, put-else, put-case, count-put, count-same}
-use Rattle.planar_sphere.specs.Map.{Map, Net}
-use Rattle.planar_sphere.specs.Shell.{Shell, Rim}
+use Rattle.planar_rules.specs.PlanarCode.{Flat, netOf, formed?, taken?, Point, comesOff, number, first, second, top, topPoint, points, vertices, pointOf, plain, entryWords, records, orderFile, vertexList}
+use Rattle.planar_sphere.specs.Count.{bool, clash, count, count-max, put, put-else, put-case, count-put, count-same}
+use Rattle.planar_sphere.specs.Map.{Net}
 use Rattle.planar_sphere.specs.Flat.{Listed, bound}
 use Rattle.planar_sphere.specs.Check.{Valid, good, net-of, back-own, taken-yes}
 use Rattle.planar_sphere.specs.Order.{sound, point-1, line-12, size}
-use Rattle.planar_sphere.specs.Program.{Is, net-map}
-use Rattle.planar_order.specs.File.{four, byte, listed}
-use Rattle.planar_order.specs.Model.{Over, Stands, Chain, numbered, Distinct, index-is}
-use Rattle.planar_order.specs.Step.{among, stateOf, apart, in-net, not-yet}
-use Rattle.planar_order.specs.Numbering.{Fresh, none, more, AllLines, Lines, total, Going, goes-first, goes-on}
+use Rattle.planar_sphere.specs.Program.{net-map}
+use Rattle.planar_order.specs.File.{four, listed}
+use Rattle.planar_order.specs.Model.{Stands, numbered, Distinct, index-is}
+use Rattle.planar_order.specs.Step.{among, apart, in-net, not-yet}
+use Rattle.planar_order.specs.Numbering.{Fresh, more, AllLines, total, Going, goes-first, goes-on}
 
 -- ---- numbered vertices as a list
 

@@ -1,14 +1,14 @@
 -- The darts round a point that is taken off, and the boundary that its neighbours form.
-use Prim.Native.Nat.{ℕ, zero, suc, _+_, _-_, _*_, _<_, _≤_}
+use Prim.Native.Nat.{ℕ, zero, suc, _+_, _-_, _<_, _≤_}
 use mathlib.Core.Path.{_≡_, refl, ap, sym, _∙_}
-use mathlib.Core.Logic.{_≢_, _⊎_, inl, inr}
-use mathlib.Core.Bool.{Bool, true, false}
+use mathlib.Core.Logic.{_≢_, inl, inr}
+use mathlib.Core.Bool.{true, false}
 use native.Mathlib.Omega.{arith}
 use native.Mathlib.Nat.{zero-add}
-use native.Mathlib.Decide.{ℕ-discrete, decLt, decLe}
+use native.Mathlib.Decide.{ℕ-discrete}
 use Rattle.planar_sphere.specs.Count.{bool, clash}
 use Rattle.planar_sphere.specs.Map.{Map, Net, φ, end, turn, φ-in, org-φ}
-use Rattle.planar_sphere.specs.Shell.{Shell, Rim, ends, end-there, before}
+use Rattle.planar_sphere.specs.Shell.{Shell, Rim, ends, end-there}
 
 pub turn-zero : (g : Map) (d : ℕ) → turn g zero d ≡ d
 unfolding turn

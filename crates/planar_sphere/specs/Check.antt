@@ -1,19 +1,19 @@
 -- The tests on a file's net, and what they tell: a net passes exactly if it is a net to be taken.
-use Prim.Native.Nat.{ℕ, zero, suc, _+_, _-_, _*_, _<_, _≤_}
+use Prim.Native.Nat.{ℕ, zero, suc, _+_, _*_, _<_, _≤_}
 use mathlib.Core.Path.{_≡_, refl, ap, sym, _∙_}
-use mathlib.Core.Logic.{_≢_, _⊎_, inl, inr}
+use mathlib.Core.Logic.{_≢_, inl, inr}
 use mathlib.Core.Bool.{Bool, true, false, not, _&&_, _||_}
 use native.Mathlib.Omega.{arith}
 use native.Mathlib.Nat.{le-refl}
-use native.Mathlib.Decide.{ℕ-discrete, decLt, decLe}
-use lib.Dec.{eqb, ltb, leb}
-use borrow.Author.Tests.{eq-eqb, ne-eqb, eqb-true, ltb-true, lt-ltb, leb-true, le-leb}
+use native.Mathlib.Decide.{ℕ-discrete}
+use lib.Dec.{eqb, ltb}
+use borrow.Author.Tests.{eq-eqb, ne-eqb, eqb-true, ltb-true, lt-ltb}
 use Rattle.rules.specs.Basics.{if_then_else_}
 use Rattle.rules.specs.Bools.{both}
-use Rattle.planar_rules.specs.PlanarCode.{all, seek, Flat, after, place, back, notSelf?, notTwice?, inBoth?, merge, labels, joined?, counted?, side, faces?, taken?}
-use Rattle.planar_sphere.specs.Count.{bit, bool, clash}
+use Rattle.planar_rules.specs.PlanarCode.{all, seek, Flat, after, place, back, notSelf?, notTwice?, inBoth?, merge, labels, joined?, side, faces?, taken?}
+use Rattle.planar_sphere.specs.Count.{bool, clash}
 use Rattle.planar_sphere.specs.Tree.{merge-in, merge-out, merge-join, merge-same}
-use Rattle.planar_sphere.specs.Map.{Map, Net}
+use Rattle.planar_sphere.specs.Map.{Net}
 use Rattle.planar_sphere.specs.Flat.{Listed, Good, map, net}
 
 -- ---- tests over all numbers below a bound

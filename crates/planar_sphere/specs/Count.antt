@@ -1,8 +1,8 @@
 -- Counting the numbers below a bound that pass a test.
-use Prim.Native.Nat.{ℕ, zero, suc, _+_, _*_, _<_, _≤_}
+use Prim.Native.Nat.{ℕ, zero, suc, _+_, _<_, _≤_}
 use mathlib.Core.Path.{_≡_, refl, ap, sym, _∙_}
 use mathlib.Core.Logic.{_≢_, _⊎_, inl, inr}
-use mathlib.Core.Bool.{Bool, true, false, not, true≢false, false≢true}
+use mathlib.Core.Bool.{Bool, true, false, not, true≢false}
 use native.Mathlib.Omega.{arith}
 use native.Mathlib.Decide.{ℕ-discrete}
 use lib.Dec.{eqb}
@@ -23,6 +23,12 @@ bool false = inr refl
 
 pub clash {ℓ} : {A : Type ℓ} {b : Bool} → b ≡ true → b ≡ false → A
 clash p q = absurd (true≢false (sym p ∙ q))
+
+-- tests that say the same have the same bit
+pub same-bit : (a b : Bool) → (a ≡ true → b ≡ true) → (b ≡ true → a ≡ true) → bit a ≡ bit b
+same-bit true b p q = rw (p refl)
+same-bit false true p q = clash (q refl) refl
+same-bit false false p q = refl
 
 bit-le : (a b : Bool) → (a ≡ true → b ≡ true) → bit a ≤ bit b
 bit-le true b h = rw (h refl) (omega arith)
@@ -119,13 +125,6 @@ put-case z p x h = elim (ℕ-discrete x z) [ yes e ↦ inl e | no d ↦ inr (sym
 
 pub del-case : (z : ℕ) (p : ℕ → Bool) (x : ℕ) → del z p x ≡ false → (x ≡ z) ⊎ (p x ≡ false)
 del-case z p x h = elim (ℕ-discrete x z) [ yes e ↦ inl e | no d ↦ inr (sym (del-else z p x d) ∙ h) ]
-
-pub del-old : (z : ℕ) (p : ℕ → Bool) (x : ℕ) → del z p x ≡ true → (x ≢ z) × (p x ≡ true)
-del-old z p x h =
-    elim (ℕ-discrete x z) [
-      | yes e ↦ clash h (rw e (del-here z p))
-      | no d ↦ (d, sym (del-else z p x d) ∙ h)
-    ]
 
 pub count-put : (z : ℕ) (p : ℕ → Bool) (n : ℕ) → z < n → p z ≡ false → count (put z p) n ≡ count p n + 1
 count-put z p n l a = count-more p (put z p) z n l a (put-here z p) (λ x d. sym (put-else z p x d))

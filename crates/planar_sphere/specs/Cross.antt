@@ -5,11 +5,11 @@ use mathlib.Core.Logic.{_≢_, _⊎_, inl, inr}
 use mathlib.Core.Bool.{Bool, true, false}
 use native.Mathlib.Omega.{arith}
 use native.Mathlib.Nat.{add-zero}
-use native.Mathlib.Decide.{ℕ-discrete, decLt, decLe}
-use Rattle.planar_sphere.specs.Count.{count, put, put-here, put-else, put-old, put-case, bool, clash, search-all}
-use Rattle.planar_sphere.specs.Map.{Map, Net, φ, end, rep, isRep, φ-in, org-φ, rep-α, rep-inj, walk, around, fan, heal, whole}
+use native.Mathlib.Decide.{ℕ-discrete, decLt}
+use Rattle.planar_sphere.specs.Count.{count, put, put-here, put-old, put-case, bool, clash, search-all}
+use Rattle.planar_sphere.specs.Map.{Map, Net, end, rep, isRep, rep-α, rep-inj, walk, around, fan, heal, whole}
 use Rattle.planar_sphere.specs.Reveal.{Faces, OneFace, spare}
-use Rattle.planar_sphere.specs.Shell.{Shell, Rim, ends, end-there, before}
+use Rattle.planar_sphere.specs.Shell.{Shell, Rim, ends, before}
 
 -- c, f 0, .. f (k - 1)
 unfoldable among : ℕ → (ℕ → ℕ) → ℕ → ℕ → Bool

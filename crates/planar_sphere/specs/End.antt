@@ -1,12 +1,12 @@
 -- With a boundary of two points nothing else is left.
-use Prim.Native.Nat.{ℕ, zero, suc, _+_, _-_, _*_, _<_, _≤_}
+use Prim.Native.Nat.{ℕ, zero, suc, _+_, _<_}
 use mathlib.Core.Path.{_≡_, refl, ap, sym, _∙_}
-use mathlib.Core.Logic.{_≢_, _⊎_, inl, inr}
-use mathlib.Core.Bool.{Bool, true, false}
+use mathlib.Core.Logic.{_⊎_, inl, inr}
+use mathlib.Core.Bool.{Bool, true}
 use native.Mathlib.Omega.{arith}
-use native.Mathlib.Decide.{ℕ-discrete, decLt, decLe}
-use Rattle.planar_sphere.specs.Count.{bit, bool, clash, put, put-here, put-else, put-old, put-case, count, count-put, count-all}
-use Rattle.planar_sphere.specs.Map.{Map, Net, φ, end, turn, φ-in, org-φ}
+use native.Mathlib.Decide.{ℕ-discrete}
+use Rattle.planar_sphere.specs.Count.{same-bit, bit, bool, put, put-here, put-else, put-old, put-case, count, count-put, count-all}
+use Rattle.planar_sphere.specs.Map.{Map, Net, end, turn}
 use Rattle.planar_sphere.specs.Shell.{Shell, Rim}
 use Rattle.planar_sphere.specs.Arc.{turn-zero, turn-suc, turn-in, turn-org}
 
@@ -98,11 +98,6 @@ module _ {g : Map} (n : Net g) {h : Shell} (w : Rim g h) (m2 : h .m ≡ 2) where
             | yes z ↦ ap rest (sym e ∙ ap (λ k. g .org (h .b k)) z) ∙ rest-0
             | no ne ↦ let z : a ≡ 1 = omega (arith, ne) in ap rest (sym e ∙ ap (λ k. g .org (h .b k)) z) ∙ rest-1
           ]
-
-  same-bit : (a b : Bool) → (a ≡ true → b ≡ true) → (b ≡ true → a ≡ true) → bit a ≡ bit b
-  same-bit true b p q = rw (p refl)
-  same-bit false true p q = clash (q refl) refl
-  same-bit false false p q = refl
 
   all-rest : (x : ℕ) → x < g .n → rest x ≡ true
   all-rest x xl =

@@ -1,15 +1,14 @@
 -- A net as a file has it: for each point in turn its neighbours in clockwise order, one after another. off v is where v's neighbours begin.
 use Prim.Native.Nat.{ℕ, zero, suc, _+_, _-_, _*_, _<_, _≤_}
-use mathlib.Core.Path.{_≡_, refl, ap, sym, _∙_}
-use mathlib.Core.Logic.{_≢_, _⊎_, inl, inr}
-use mathlib.Core.Bool.{Bool, true, false}
+use mathlib.Core.Path.{_≡_, ap, sym, _∙_}
+use mathlib.Core.Logic.{_≢_}
+use mathlib.Core.Bool.{false}
 use native.Mathlib.Omega.{arith}
 use native.Mathlib.Decide.{ℕ-discrete, decLt, decLe}
-use lib.Dec.{eqb}
-use borrow.Author.Tests.{eq-eqb, ne-eqb, eqb-true}
+use borrow.Author.Tests.{eq-eqb, ne-eqb}
 use Rattle.planar_rules.specs.PlanarCode.{Flat, after}
-use Rattle.planar_sphere.specs.Count.{bit, bool, clash, put, put-here, put-else, put-case}
-use Rattle.planar_sphere.specs.Map.{Map, Net, φ, end, turn}
+use Rattle.planar_sphere.specs.Count.{bit, put, put-here, put-else}
+use Rattle.planar_sphere.specs.Map.{Map, Net, turn}
 use Rattle.planar_sphere.specs.Arc.{turn-zero, turn-suc, turn-add}
 
 -- the lists one after another

@@ -1,11 +1,11 @@
 -- Half of the darts stand for their lines.
-use Prim.Native.Nat.{ℕ, zero, suc, _+_, _*_, _<_, _≤_}
-use mathlib.Core.Path.{_≡_, refl, ap, sym, _∙_}
-use mathlib.Core.Logic.{_≢_, _⊎_, inl, inr}
-use mathlib.Core.Bool.{Bool, true, false, not}
+use Prim.Native.Nat.{ℕ, _*_, _<_}
+use mathlib.Core.Path.{_≡_, ap, sym, _∙_}
+use mathlib.Core.Logic.{inl, inr}
+use mathlib.Core.Bool.{true, not}
 use native.Mathlib.Omega.{arith}
 use borrow.Author.Tests.{eq-eqb, ne-eqb, eqb-true, eqb-false, not-true}
-use Rattle.planar_sphere.specs.Count.{count, count-not, inject, bool, clash}
+use Rattle.planar_sphere.specs.Count.{count, count-not, inject}
 use Rattle.planar_sphere.specs.Map.{Map, Net, rep, isRep, rep-α, rep-either}
 
 module _ {g : Map} (h : Net g) where

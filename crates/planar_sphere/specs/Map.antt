@@ -1,6 +1,6 @@
 -- A net by its darts (a dart is a line seen from one of its ends): org d is the point it leaves, α d the same line from the other end,
 -- σ d the dart that follows clockwise at the same point. Points are 0..n-1, darts 0..D-1.
-use Prim.Native.Nat.{ℕ, zero, suc, _+_, _*_, _<_, _≤_}
+use Prim.Native.Nat.{ℕ, zero, suc, _+_, _*_, _<_}
 use mathlib.Core.Path.{_≡_, refl, ap, sym, _∙_}
 use mathlib.Core.Logic.{_≢_, _⊎_, inl, inr}
 use mathlib.Core.Bool.{Bool, true, false}
@@ -9,7 +9,7 @@ use native.Mathlib.Decide.{ℕ-discrete}
 use lib.Dec.{ltb, eqb}
 use borrow.Author.Tests.{ltb-true, ltb-false, eq-eqb}
 use Rattle.rules.specs.Basics.{if_then_else_}
-use Rattle.planar_sphere.specs.Count.{count, bool}
+use Rattle.planar_sphere.specs.Count.{bool}
 
 pub record Map : Type 0 where
   pub n : ℕ

@@ -1,14 +1,14 @@
 -- The first point taken off: the one after e's end, round e's point.
-use Prim.Native.Nat.{ℕ, zero, suc, _+_, _-_, _*_, _<_, _≤_}
+use Prim.Native.Nat.{ℕ, zero, suc, _+_, _-_, _<_, _≤_}
 use mathlib.Core.Path.{_≡_, refl, ap, sym, _∙_}
-use mathlib.Core.Logic.{_≢_, _⊎_, inl, inr}
-use mathlib.Core.Bool.{Bool, true, false}
+use mathlib.Core.Logic.{_≢_, inl, inr}
+use mathlib.Core.Bool.{true, false}
 use native.Mathlib.Omega.{arith}
-use native.Mathlib.Decide.{ℕ-discrete, decLt, decLe}
-use Rattle.planar_sphere.specs.Count.{bool, clash, put, put-here, put-else, put-old, put-case}
-use Rattle.planar_sphere.specs.Map.{Map, Net, φ, end, turn, φ-in, org-φ, fan}
+use native.Mathlib.Decide.{ℕ-discrete, decLt}
+use Rattle.planar_sphere.specs.Count.{bool, clash, put, put-here, put-case}
+use Rattle.planar_sphere.specs.Map.{Map, Net, φ, end, turn, fan}
 use Rattle.planar_sphere.specs.Shell.{Shell, Rim}
-use Rattle.planar_sphere.specs.Arc.{turn-zero, turn-suc, turn-in, turn-org, turn-one, first-hit, far-in, far-org, far-end, far-third}
+use Rattle.planar_sphere.specs.Arc.{turn-zero, turn-suc, turn-in, turn-org, turn-one, far-in, far-org, far-end, far-third}
 
 -- the dart from the point taken off to e's point
 abbrev pub hub : Map → ℕ → ℕ

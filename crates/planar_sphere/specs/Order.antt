@@ -1,19 +1,19 @@
 -- Shelling from the top never sticks: as long as more than two points are left, one can be taken off, and then the rest is as before.
-use Prim.Native.Nat.{ℕ, zero, suc, _+_, _-_, _*_, _<_, _≤_}
-use mathlib.Core.Path.{_≡_, refl, ap, sym, _∙_}
-use mathlib.Core.Logic.{_≢_, _⊎_, inl, inr}
-use mathlib.Core.Bool.{Bool, true, false, not}
+use Prim.Native.Nat.{ℕ, zero, suc, _+_, _-_, _<_, _≤_}
+use mathlib.Core.Path.{_≡_, refl, ap, _∙_}
+use mathlib.Core.Logic.{_≢_}
+use mathlib.Core.Bool.{true, false, not}
 use native.Mathlib.Omega.{arith}
-use native.Mathlib.Decide.{ℕ-discrete, decLt, decLe}
+use native.Mathlib.Decide.{ℕ-discrete}
 use lib.Dec.{ltb}
 use borrow.Author.Tests.{lt-ltb, le-ltb}
 use Rattle.rules.specs.Basics.{if_then_else_}
-use Rattle.planar_sphere.specs.Count.{put, put-here, count, count-put, count-none, count-all, count-not, inject}
-use Rattle.planar_sphere.specs.Map.{Map, Net, φ, end, turn}
+use Rattle.planar_sphere.specs.Count.{put, count, count-put, count-none, count-all, count-not, inject}
+use Rattle.planar_sphere.specs.Map.{Map, Net, φ, turn}
 use Rattle.planar_sphere.specs.Half.{halves}
 use Rattle.planar_sphere.specs.Shell.{Shell, Rim}
 use Rattle.planar_sphere.specs.Cross.{Chordless, removable}
-use Rattle.planar_sphere.specs.Arc.{Arc, arc, first-hit, turn-zero, some-step}
+use Rattle.planar_sphere.specs.Arc.{Arc, arc, first-hit}
 use Rattle.planar_sphere.specs.Take.{Taken, taken, zero′, last′}
 use Rattle.planar_sphere.specs.Open.{Opened, hub, opened, zero-org, closing}
 use Rattle.planar_sphere.specs.End.{left-two}

@@ -1,11 +1,11 @@
 -- What a program keeps: which points are gone, and the boundary by its points. Points are the file's vertices, counted from 0.
-use Prim.Native.Nat.{ℕ, zero, suc, _+_, _-_, _*_, _<_, _≤_}
+use Prim.Native.Nat.{ℕ, suc, _+_, _-_, _<_, _≤_}
 use mathlib.Core.Path.{_≡_, refl, ap, sym, _∙_}
-use mathlib.Core.Logic.{_≢_, _⊎_, inl, inr}
-use mathlib.Core.Bool.{Bool, true, false}
+use mathlib.Core.Logic.{_≢_, _⊎_}
+use mathlib.Core.Bool.{Bool, false}
 use native.Mathlib.Omega.{arith}
-use native.Mathlib.Decide.{ℕ-discrete, decLt, decLe}
-use Rattle.planar_rules.specs.PlanarCode.{Flat, after, back, taken?}
+use native.Mathlib.Decide.{decLt}
+use Rattle.planar_rules.specs.PlanarCode.{Flat, after, back}
 use Rattle.planar_sphere.specs.Count.{put, put-same, count, count-put, count-same}
 use Rattle.planar_sphere.specs.Map.{Map, Net, end, turn, φ}
 use Rattle.planar_sphere.specs.Flat.{Listed, map, once, before}
@@ -13,9 +13,9 @@ use Rattle.planar_sphere.specs.Shell.{Shell, Rim}
 use Rattle.planar_sphere.specs.Cross.{Chordless}
 use Rattle.planar_sphere.specs.Arc.{Arc, arc-of, turn-in, turn-org, turn-suc, far-org}
 use Rattle.planar_sphere.specs.Take.{Taken, run, below, above}
-use Rattle.planar_sphere.specs.Open.{Opened, hub, opened, zero-org, closing}
+use Rattle.planar_sphere.specs.Open.{Opened, hub}
 use Rattle.planar_sphere.specs.Check.{Valid, net-of, back-own}
-use Rattle.planar_sphere.specs.Order.{Shelled, sound, never-stuck, order, three-left, take, take-is, next, first, start, start-is}
+use Rattle.planar_sphere.specs.Order.{Shelled, sound, never-stuck, take, take-is, next, first, start}
 
 pub record State : Type 0 where
   pub gone : ℕ → Bool

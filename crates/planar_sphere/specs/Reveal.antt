@@ -1,12 +1,12 @@
 -- Where the faces hang together by lines other than the barred ones, no barred line can be spared.
 use Prim.Native.Nat.{ℕ, zero, suc, _+_, _*_, _<_, _≤_}
 use mathlib.Core.Path.{_≡_, refl, ap, sym, _∙_}
-use mathlib.Core.Logic.{_≢_, _⊎_, inl, inr}
+use mathlib.Core.Logic.{_≢_, inl, inr}
 use mathlib.Core.Bool.{Bool, true, false, not}
 use native.Mathlib.Omega.{arith}
 use native.Mathlib.Decide.{ℕ-discrete}
 use Rattle.rules.specs.Basics.{if_then_else_}
-use Rattle.planar_sphere.specs.Count.{bit, count, put, del, put-here, put-else, put-old, put-case, del-here, del-else, del-case, del-old, count-put, count-del, count-max, count-none, count-all, bool, clash, find}
+use Rattle.planar_sphere.specs.Count.{same-bit, bit, count, put, del, put-here, put-else, put-old, put-case, del-else, del-case, count-put, count-del, count-max, count-none, count-all, bool, clash, find}
 use Rattle.planar_sphere.specs.Tree.{tree}
 use Rattle.planar_sphere.specs.Map.{Map, Net, φ, end, rep, isRep, φ-in, org-φ, rep-in, rep-α, rep-is, rep-inj, along-rep}
 
@@ -201,11 +201,6 @@ module _ {g : Map} (h : Net g) (bar : ℕ → Bool) (even : (d : ℕ) → d < g 
           go true a false b false c t e k = clash refl t
           go true a false b true c t e k = clash c e
           go false a y b z c t e k = clash k a
-
-      same-bit : (a b : Bool) → (a ≡ true → b ≡ true) → (b ≡ true → a ≡ true) → bit a ≡ bit b
-      same-bit true b p q = rw (p refl)
-      same-bit false true p q = clash (q refl) refl
-      same-bit false false p q = refl
 
       all-seen : (seen keep : ℕ → Bool) → Shown seen keep → seen z ≡ true → ((d : ℕ) → d < g .D → edge seen d ≡ false) → (d : ℕ) → d < g .D → seen d ≡ true
       all-seen seen keep i sz none d dl =

@@ -1,11 +1,9 @@
 -- What is left after some points are taken off: the points not gone, and their boundary, a round of m darts.
-use Prim.Native.Nat.{ℕ, zero, suc, _+_, _*_, _<_, _≤_}
+use Prim.Native.Nat.{ℕ, _+_, _<_, _≤_}
 use mathlib.Core.Path.{_≡_, refl, ap, sym, _∙_}
-use mathlib.Core.Logic.{_≢_, _⊎_, inl, inr}
 use mathlib.Core.Bool.{Bool, true, false}
 use native.Mathlib.Omega.{arith}
-use native.Mathlib.Decide.{ℕ-discrete, decLt}
-use Rattle.planar_sphere.specs.Count.{bool, clash}
+use native.Mathlib.Decide.{decLt}
 use Rattle.planar_sphere.specs.Map.{Map, Net, φ, end, φ-in, org-φ}
 
 pub record Shell : Type 0 where

@@ -1,13 +1,13 @@
 -- Taking a chordless boundary point off keeps the boundary sound.
-use Prim.Native.Nat.{ℕ, zero, suc, _+_, _-_, _*_, _<_, _≤_}
+use Prim.Native.Nat.{ℕ, zero, suc, _+_, _-_, _<_, _≤_}
 use mathlib.Core.Path.{_≡_, refl, ap, sym, _∙_}
 use mathlib.Core.Logic.{_≢_, _⊎_, inl, inr}
-use mathlib.Core.Bool.{Bool, true, false}
+use mathlib.Core.Bool.{true, false}
 use native.Mathlib.Omega.{arith}
-use native.Mathlib.Decide.{ℕ-discrete, decLt, decLe}
+use native.Mathlib.Decide.{ℕ-discrete, decLt}
 use Rattle.planar_sphere.specs.Count.{bool, clash, put, put-here, put-else, put-old, put-case}
 use Rattle.planar_sphere.specs.Map.{Map, Net, φ, end, turn, φ-in, org-φ, fan}
-use Rattle.planar_sphere.specs.Shell.{Shell, Rim, ends, end-there, before}
+use Rattle.planar_sphere.specs.Shell.{Shell, Rim}
 use Rattle.planar_sphere.specs.Cross.{Chordless}
 use Rattle.planar_sphere.specs.Arc.{Arc, turn-zero, turn-suc, turn-in, turn-org, turn-one, far-in, far-org, far-end, far-third, some-step, on-arc}
 
