@@ -10,6 +10,10 @@ use planar_reading::fill_off;
 use planar_reading::fill_own;
 use planar_reading::formed;
 use planar_reading::places;
+use planar_rules::ENTRY_ROOM;
+use planar_rules::PLACE_ROOM;
+use planar_rules::START_ROOM;
+use planar_rules::VERTEX_ROOM;
 use planar_writing::put_both;
 use rules::Refusal;
 ghost use mathlib.Core.Path.{_≡_};
@@ -35,7 +39,13 @@ pub enum Net {
 }
 
 // Fills the arrays with the net of a file that is well formed.
-fn fill(file: &[u8], n: u8, off: &mut [u16; 257], own: &mut [u8; 1536], nbr: &mut [u8; 1536])
+fn fill(
+    file: &[u8],
+    n: u8,
+    off: &mut [u16; START_ROOM],
+    own: &mut [u8; PLACE_ROOM],
+    nbr: &mut [u8; PLACE_ROOM],
+)
     requires { ⌜ (formed? (now file) ≡ true) × (n ≡ nOf (now file)) × (length (neighbours (body (now file))) ≤ 1536) × Zeros 257 (now off) × Zeros 1536 (now own) × Zeros 1536 (now nbr) ⌝ }
     ensures { λ _. ⌜ InArrays (now (file .entry)) (now (off .exit)) (now (own .exit)) (now (nbr .exit)) ⌝ }
 {
@@ -45,7 +55,12 @@ fn fill(file: &[u8], n: u8, off: &mut [u16; 257], own: &mut [u8; 1536], nbr: &mu
 }
 
 // 14, then 15; more places than a net of 255 vertices has are never those of a net.
-fn judge(file: &[u8], off: &mut [u16; 257], own: &mut [u8; 1536], nbr: &mut [u8; 1536]) -> Net
+fn judge(
+    file: &[u8],
+    off: &mut [u16; START_ROOM],
+    own: &mut [u8; PLACE_ROOM],
+    nbr: &mut [u8; PLACE_ROOM],
+) -> Net
     requires { ⌜ Zeros 257 (now off) × Zeros 1536 (now own) × Zeros 1536 (now nbr) ⌝ }
     ensures { λ r. ⌜ Judged (now (file .entry)) (now (off .exit)) (now (own .exit)) (now (nbr .exit)) r ⌝ }
 {
@@ -54,7 +69,7 @@ fn judge(file: &[u8], off: &mut [u16; 257], own: &mut [u8; 1536], nbr: &mut [u8;
     }
     let n = file[15];
     let d = places(file);
-    if 1536 < d {
+    if PLACE_ROOM < d {
         return Net::Refused(Refusal::NoNet);
     }
     fill(file, n, off, own, nbr);
@@ -68,13 +83,13 @@ fn judge(file: &[u8], off: &mut [u16; 257], own: &mut [u8; 1536], nbr: &mut [u8;
 fn number_net(
     n: u8,
     d: usize,
-    off: &[u16; 257],
-    own: &[u8; 1536],
-    nbr: &[u8; 1536],
-    ver: &mut [u8; 256],
-    ln: &mut [u8; 256],
-    ent: &mut [u8; 768],
-    num: &mut [u8; 256],
+    off: &[u16; START_ROOM],
+    own: &[u8; PLACE_ROOM],
+    nbr: &[u8; PLACE_ROOM],
+    ver: &mut [u8; VERTEX_ROOM],
+    ln: &mut [u8; VERTEX_ROOM],
+    ent: &mut [u8; ENTRY_ROOM],
+    num: &mut [u8; VERTEX_ROOM],
 ) -> usize
     requires { ⌜ ((file : List ℕ) × TakenIn file n d (now off) (now own) (now nbr)) × (length (now ver) ≡ 256) × (length (now ln) ≡ 256) × (length (now ent) ≡ 768) × Zeros 256 (now num) ⌝ }
     ensures { λ r. ⌜ NumberedIn (flatOf n d (now (off .entry)) (now (own .entry)) (now (nbr .entry))) (now (ver .exit)) (now (ln .exit)) (now (ent .exit)) (now (num .exit)) r ⌝ }
@@ -88,9 +103,9 @@ fn number_net(
 fn put_net(
     n: u8,
     d: usize,
-    off: &[u16; 257],
-    own: &[u8; 1536],
-    nbr: &[u8; 1536],
+    off: &[u16; START_ROOM],
+    own: &[u8; PLACE_ROOM],
+    nbr: &[u8; PLACE_ROOM],
     order: &mut [u8],
     list: &mut [u8],
 )
@@ -100,10 +115,10 @@ fn put_net(
         Stored (now (list .entry)) 0 (vertexList (points (flatOf n d (now (off .entry)) (now (own .entry)) (now (nbr .entry))))) (now (list .exit))
         ⌝ }
 {
-    let mut ver = [0; 256];
-    let mut ln = [0; 256];
-    let mut ent = [0; 768];
-    let mut num = [0; 256];
+    let mut ver = [0; VERTEX_ROOM];
+    let mut ln = [0; VERTEX_ROOM];
+    let mut ent = [0; ENTRY_ROOM];
+    let mut num = [0; VERTEX_ROOM];
     let s = number_net(n, d, off, own, nbr, &mut ver, &mut ln, &mut ent, &mut num);
     put_both(order, list, wide(n), &ver, &ln, &ent, s, &num);
 }
@@ -112,9 +127,9 @@ fn put_net(
 fn put_fitting(
     n: u8,
     d: usize,
-    off: &[u16; 257],
-    own: &[u8; 1536],
-    nbr: &[u8; 1536],
+    off: &[u16; START_ROOM],
+    own: &[u8; PLACE_ROOM],
+    nbr: &[u8; PLACE_ROOM],
     order: &mut [u8],
     list: &mut [u8],
 ) -> Imported
@@ -138,9 +153,9 @@ fn import_in(
     file: &[u8],
     order: &mut [u8],
     list: &mut [u8],
-    off: &mut [u16; 257],
-    own: &mut [u8; 1536],
-    nbr: &mut [u8; 1536],
+    off: &mut [u16; START_ROOM],
+    own: &mut [u8; PLACE_ROOM],
+    nbr: &mut [u8; PLACE_ROOM],
 ) -> Imported
     requires { ⌜ Zeros 257 (now off) × Zeros 1536 (now own) × Zeros 1536 (now nbr) ⌝ }
     ensures { λ r. ⌜ Imports (now (file .entry)) (now (order .entry)) (now (list .entry)) (now (order .exit)) (now (list .exit)) r ⌝ }
@@ -158,8 +173,8 @@ pub fn import(file: &[u8], order: &mut [u8], list: &mut [u8]) -> Imported
     ensures imports { λ r. ⌜ Imports (now (file .entry)) (now (order .entry)) (now (list .entry)) (now (order .exit)) (now (list .exit)) r ⌝ }
     ensures drawable { λ _. ⌜ ((τ : Style) (i : Import) → imported (now (file .entry)) ≡ good i → Drawable τ (netOf (now (file .entry))) (i .order)) ⌝ }
 {
-    let mut off = [0; 257];
-    let mut own = [0; 1536];
-    let mut nbr = [0; 1536];
+    let mut off = [0; START_ROOM];
+    let mut own = [0; PLACE_ROOM];
+    let mut nbr = [0; PLACE_ROOM];
     import_in(file, order, list, &mut off, &mut own, &mut nbr)
 }

@@ -7,12 +7,12 @@ ghost use lib.ListN.{length, getD};
 ghost use Rattle.planar_rules.specs.PlanarCode.{lowest};
 ghost use Rattle.planar_choosing.specs.Free.{noChord?, freeIn};
 ghost use Rattle.planar_choosing.specs.Choosing.{Positions, Apart, Within, openIn, Chosen};
-use planar_judging::PLACE_ROOM;
-use planar_judging::START_ROOM;
-use planar_judging::VERTEX_ROOM;
 use planar_judging::list_end;
 use planar_judging::list_start;
 use planar_judging::wide;
+use planar_rules::PLACE_ROOM;
+use planar_rules::START_ROOM;
+use planar_rules::VERTEX_ROOM;
 
 // A vertex, and one more than its index on the boundary.
 pub struct Choice {

@@ -9,14 +9,10 @@ ghost use lib.Dec.{eqb};
 ghost use Rattle.planar_rules.specs.PlanarCode.{place, notSelf?, notTwice?, faces?, joined?, taken?, all};
 ghost use Rattle.planar_judging.specs.Arrays.{flatOf, Kept, Backs, Both, afterIn, Relabelled};
 ghost use Rattle.planar_judging.specs.Laws.{seekIn, Merged, soundLists?, soundFaces?};
+use planar_rules::PLACE_ROOM;
+use planar_rules::START_ROOM;
+use planar_rules::VERTEX_ROOM;
 use words::broad;
-
-// Room for so many vertices, for where each list begins and the last ends, and for the neighbours in all lists.
-pub const VERTEX_ROOM: usize = 256;
-
-pub const START_ROOM: usize = VERTEX_ROOM + 1;
-
-pub const PLACE_ROOM: usize = 6 * VERTEX_ROOM;
 
 // A byte, to compute with.
 pub fn wide(x: u8) -> usize

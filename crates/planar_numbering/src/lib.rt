@@ -12,15 +12,13 @@ ghost use Rattle.planar_numbering.specs.Top.{Begin, Ready, TopNumbered};
 ghost use Rattle.planar_numbering.specs.Next.{NextNumbered};
 ghost use Rattle.planar_numbering.specs.Numbered.{CountedDown, AllNumbered};
 use planar_choosing::choose;
-use planar_judging::PLACE_ROOM;
-use planar_judging::START_ROOM;
-use planar_judging::VERTEX_ROOM;
 use planar_judging::after;
 use planar_judging::place_of;
 use planar_judging::wide;
-
-// Room for the entries of all points.
-pub const ENTRY_ROOM: usize = 3 * VERTEX_ROOM;
+use planar_rules::ENTRY_ROOM;
+use planar_rules::PLACE_ROOM;
+use planar_rules::START_ROOM;
+use planar_rules::VERTEX_ROOM;
 
 // Puts the neighbours from place d0 on, clockwise, up to left, into ent from s down: they stand there from left to right.
 // Returns where they begin.

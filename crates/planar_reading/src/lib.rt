@@ -8,21 +8,14 @@ ghost use Prim.Native.Nat.{_<_, _≤_};
 ghost use lib.ListN.{length, getD};
 ghost use Rattle.planar_rules.specs.PlanarCode.{begins?, body, lists?, formed?, neighbours, owners, ends};
 ghost use Rattle.planar_reading.specs.Laws.{Filled};
+use planar_rules::FEWEST_VERTICES;
+use planar_rules::PLACE_ROOM;
+use planar_rules::START_ROOM;
 
 // Where n stands, behind the opening characters, and where the lists begin.
 const AT_N: usize = 15;
 
 const AT_LISTS: usize = 16;
-
-// The fewest vertices of a net.
-const FEWEST: u8 = 4;
-
-// Room for so many vertices, for where each list begins and the last ends, and for the neighbours in all lists.
-const VERTEX_ROOM: usize = 256;
-
-pub const START_ROOM: usize = VERTEX_ROOM + 1;
-
-pub const PLACE_ROOM: usize = 6 * VERTEX_ROOM;
 
 // Whether the file begins with the text.
 fn begins(file: &[u8], text: &[u8]) -> bool
@@ -74,7 +67,7 @@ pub fn formed(file: &[u8]) -> bool
         return false;
     }
     let n = file[AT_N];
-    if n < FEWEST {
+    if n < FEWEST_VERTICES {
         return false;
     }
     lists(n, file)

@@ -1,6 +1,8 @@
 // The import's two outputs, written from its arrays: the order file, and the list of vertices by point.
 // For `planar`, which has the numbering and has tested the room: the functions ask for both.
 use planar_judging::wide;
+use planar_rules::ENTRY_ROOM;
+use planar_rules::VERTEX_ROOM;
 use rules::ENTRIES_MARK;
 use rules::ORDER_MARK;
 ghost use mathlib.Core.Path.{_≡_};
@@ -13,7 +15,7 @@ ghost use Rattle.planar_numbering.specs.Points.{Fitting};
 ghost use Rattle.planar_writing.specs.Words.{numbersOf, pointWords, pointsWords, orderWords, Puttable};
 
 // The point number of the vertex ent[at].
-fn number_at(ent: &[u8; 768], at: usize, num: &[u8; 256]) -> u16
+fn number_at(ent: &[u8; ENTRY_ROOM], at: usize, num: &[u8; VERTEX_ROOM]) -> u16
     requires { ⌜ at < 768 ⌝ }
     ensures { λ r. ⌜ r ≡ getD (now (num .entry)) (getD (now (ent .entry)) at 0) 0 ⌝ }
 {
@@ -25,10 +27,10 @@ fn number_at(ent: &[u8; 768], at: usize, num: &[u8; 256]) -> u16
 fn put_entries(
     out: &mut [u8],
     at: usize,
-    ent: &[u8; 768],
+    ent: &[u8; ENTRY_ROOM],
     from: usize,
     count: usize,
-    num: &[u8; 256],
+    num: &[u8; VERTEX_ROOM],
 ) -> usize
     requires { ⌜ (length (now ent) ≡ 768) × (from + count ≤ 768) × (at + 2 * count ≤ length (now out)) ⌝ }
     ensures { λ r. ⌜ Pasted (now (out .entry)) at (numbersOf (now (num .entry)) (take count (drop from (now (ent .entry))))) (now (out .exit)) r ⌝ }
@@ -47,10 +49,10 @@ fn put_entries(
 fn put_point(
     out: &mut [u8],
     at: usize,
-    ent: &[u8; 768],
+    ent: &[u8; ENTRY_ROOM],
     from: usize,
     count: usize,
-    num: &[u8; 256],
+    num: &[u8; VERTEX_ROOM],
 ) -> usize
     requires { ⌜ (length (now ent) ≡ 768) × (from + count ≤ 768) × (at + 4 + 2 * count ≤ length (now out)) ⌝ }
     ensures { λ r. ⌜ Pasted (now (out .entry)) at (pointWords (now (num .entry)) (take count (drop from (now (ent .entry))))) (now (out .exit)) r ⌝ }
@@ -64,10 +66,10 @@ fn put_points(
     out: &mut [u8],
     at: usize,
     n: usize,
-    ln: &[u8; 256],
-    ent: &[u8; 768],
+    ln: &[u8; VERTEX_ROOM],
+    ent: &[u8; ENTRY_ROOM],
     s: usize,
-    num: &[u8; 256],
+    num: &[u8; VERTEX_ROOM],
 ) -> usize
     requires { ⌜ (n ≤ 255) × (length (now ent) ≡ 768) × (s ≤ 768) × Fitting (now ln) 0 n (drop s (now ent)) × (at + 2 * length (pointsWords (now num) (now ln) 0 n (drop s (now ent))) ≤ length (now out)) ⌝ }
     ensures { λ r. ⌜ Pasted (now (out .entry)) at (pointsWords (now (num .entry)) (now (ln .entry)) 0 n (drop s (now (ent .entry)))) (now (out .exit)) r ⌝ }
@@ -88,10 +90,10 @@ fn put_points(
 fn put_order(
     out: &mut [u8],
     n: usize,
-    ln: &[u8; 256],
-    ent: &[u8; 768],
+    ln: &[u8; VERTEX_ROOM],
+    ent: &[u8; ENTRY_ROOM],
     s: usize,
-    num: &[u8; 256],
+    num: &[u8; VERTEX_ROOM],
 ) -> usize
     requires { ⌜ (n ≤ 255) × (length (now ent) ≡ 768) × (s ≤ 768) × Fitting (now ln) 0 n (drop s (now ent)) × (2 * length (orderWords n (now num) (now ln) (drop s (now ent))) ≤ length (now out)) ⌝ }
     ensures { λ r. ⌜ Pasted (now (out .entry)) 0 (orderWords n (now (num .entry)) (now (ln .entry)) (drop s (now (ent .entry)))) (now (out .exit)) r ⌝ }
@@ -102,7 +104,7 @@ fn put_order(
 }
 
 // Writes the file's vertices by point; the file counts them from 1.
-fn put_list(out: &mut [u8], n: usize, ver: &[u8; 256])
+fn put_list(out: &mut [u8], n: usize, ver: &[u8; VERTEX_ROOM])
     requires { ⌜ (n ≤ length (now out)) × (n ≤ 255) × (length (now ver) ≡ 256) × ((i : ℕ) → i < n → getD (now ver) i 0 < 255) ⌝ }
     ensures { λ _. ⌜ Stored (now (out .entry)) 0 (map suc (take n (now (ver .entry)))) (now (out .exit)) ⌝ }
 {
@@ -118,11 +120,11 @@ pub fn put_both(
     order: &mut [u8],
     list: &mut [u8],
     n: usize,
-    ver: &[u8; 256],
-    ln: &[u8; 256],
-    ent: &[u8; 768],
+    ver: &[u8; VERTEX_ROOM],
+    ln: &[u8; VERTEX_ROOM],
+    ent: &[u8; ENTRY_ROOM],
     s: usize,
-    num: &[u8; 256],
+    num: &[u8; VERTEX_ROOM],
 )
     requires { ⌜ Puttable (now order) (now list) n (now ver) (now ln) (now ent) s (now num) ⌝ }
     ensures { λ _. ⌜
