@@ -1,10 +1,10 @@
 -- HOW LONG THEY ARE: a file that is taken has 7n + 4 bytes, its order file 10n - 6 and its list n. So the programs cut no such file.
-use Prim.Native.Nat.{ℕ, zero, suc, _+_, _-_, _*_, _≤_}
-use mathlib.Core.Path.{_≡_, refl, ap, sym, _∙_}
+use Prim.Native.Nat.{ℕ, zero, suc, _+_, _*_, _≤_}
+use mathlib.Core.Path.{_≡_, refl, ap, _∙_}
 use mathlib.Core.Bool.{Bool, true, false}
 use mathlib.Core.List.{List, [], _∷_}
 use native.Mathlib.Omega.{arith}
-use lib.ListN.{length, getD, take, drop, length-drop, List·getD-eq-default}
+use lib.ListN.{length, take, length-drop, List·getD-eq-default}
 use lib.Seq.{take-all}
 use lib.Dec.{leb, ltb}
 use borrow.Author.Tests.{ltb-true, ltb-false}
