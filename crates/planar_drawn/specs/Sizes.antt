@@ -70,8 +70,11 @@ module _ (file : List ℕ) (i : Import) (h : imported file ≡ good i) where
       omega (arith, ap (λ (i : Import). length (i .list)) (passed .is), l, byte file (passed .formed))
 
   -- THE PROGRAMS judge all of it,
+  pub not-cut : take judgedBytes file ≡ file
+  not-cut = take-all judgedBytes file (omega (arith, imported-most))
+
   whole : imported (take judgedBytes file) ≡ good i
-  whole = ap imported (take-all judgedBytes file (omega (arith, imported-most))) ∙ h
+  whole = ap imported not-cut ∙ h
 
   -- print its order file and its list ..
   pub import-printed : importProgram file ≡ i .order
