@@ -1,5 +1,5 @@
 // Runs the programs' work on the worked cases in data/, and writes for each its name, what comes out, and a line feed.
-// The names stand line by line on standard input, from the file `stdin`. By how its name begins a case is an order file to be drawn straight (`straight`), a straight drawing file to be read (`read`), a drawing file with bends to be read (`undraw`), or an order file to be drawn with bends.
+// The names stand line by line on standard input, from the file `stdin`. By how its name begins a case is an order file to be drawn straight (`straight`), a straight drawing file to be read (`read`), a drawing file with bends to be read (`undraw`), a net in planar_code to be imported (`net`), one whose vertices are to be printed (`vertices`), or an order file to be drawn with bends.
 use files::Outcome;
 use libc::STDIN_FILENO;
 use libc::STDOUT_FILENO;
@@ -40,6 +40,12 @@ fn work(name: &[u8], fd: i32) -> Outcome {
     }
     if begins(name, b'u') {
         return files::undraw(Style::OneBend, fd);
+    }
+    if begins(name, b'n') {
+        return files_import::import(fd);
+    }
+    if begins(name, b'v') {
+        return files_import::import_vertices(fd);
     }
     files::draw(Style::OneBend, fd)
 }

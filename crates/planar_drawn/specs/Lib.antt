@@ -6,3 +6,4 @@ pub mod Members
 pub mod Named
 pub mod SameNet
 pub mod Theorem
+pub mod Sizes

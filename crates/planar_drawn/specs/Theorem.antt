@@ -53,12 +53,12 @@ taken-drawable τ file ok t =
     }
 
 -- an import that answers passed its tests
-record Passed (file : List ℕ) (i : Import) : Type 0 where
-  formed : formed? file ≡ true
-  taken : taken? (netOf file) ≡ true
-  is : importOf (netOf file) ≡ i
+pub record Passed (file : List ℕ) (i : Import) : Type 0 where
+  pub formed : formed? file ≡ true
+  pub taken : taken? (netOf file) ≡ true
+  pub is : importOf (netOf file) ≡ i
 
-import-passed : (file : List ℕ) (i : Import) → imported file ≡ good i → Passed file i
+pub import-passed : (file : List ℕ) (i : Import) → imported file ≡ good i → Passed file i
 unfolding imported
 import-passed file i h =
     let a = tested (not (formed? file)) BadCode 0 _ i h in

@@ -1,2 +1,3 @@
 pub mod PlanarCode
 pub mod Nets
+pub mod Programs
