@@ -32,11 +32,6 @@ ghost use Rattle.planar.specs.Judged.{Judged};
 ghost use Rattle.planar.specs.Numbered.{NumberedIn};
 ghost use Rattle.planar.specs.Outcome.{Fills, Imports};
 
-// The most vertices of a net, which is room for every list, and room for every order file.
-pub const MOST_VERTICES: usize = 255;
-
-pub const LONGEST_IMPORT: usize = 10 * MOST_VERTICES - 6;
-
 // A net that is taken, with n vertices and d places, or the refusal of its file.
 pub enum Net {
     Taken(u8, usize),
