@@ -1,13 +1,13 @@
 -- Laws of the tests, one step at a time.
 use Prim.Native.Nat.{ℕ, zero, suc, _+_, _-_, _<_, _≤_}
 use mathlib.Core.Path.{_≡_, refl, ap, sym, _∙_}
-use mathlib.Core.Logic.{inl, inr}
+use mathlib.Core.Logic.{_≢_, inl, inr}
 use mathlib.Core.List.{List}
 use mathlib.Core.Bool.{Bool, true, false, not, _&&_, _||_}
 use native.Mathlib.Omega.{arith}
 use native.Mathlib.Numerals.{add-one}
 use native.Mathlib.Decide.{ℕ-discrete, decLe}
-use lib.ListN.{length, getD, set, length-set}
+use lib.ListN.{length, getD, set, length-set, replicate}
 use lib.Seq.{getD-set-same, getD-set-other}
 use lib.Dec.{eqb, leb}
 use borrow.Author.Tests.{eq-eqb, ne-eqb, eqb-true, le-leb, lt-leb}
@@ -17,7 +17,7 @@ use Rattle.planar_rules.specs.PlanarCode.{Flat, all, seek, after, place, back, 
 use Rattle.planar_judging.specs.Arrays.{flatOf, Kept, Backs, afterIn, Relabelled}
 use Rattle.planar_sphere.specs.Count.{bool, clash}
 use Rattle.planar_sphere.specs.Flat.{Listed, after-both}
-use Rattle.planar_sphere.specs.Check.{true-and, or-not, not-or, all-true, true-all, place-hit}
+use Rattle.planar_sphere.specs.Check.{true-and, or-not, not-or, all-true, true-all}
 
 -- ---- a test of every index, from below
 
@@ -119,27 +119,115 @@ place-is f nbr e l v u vn h =
           | no a ↦ rw (ne-eqb (f .own x) v (λ o. omega (arith, a, l .from x xl, ap (f .off) o)), lt-leb (f .off v) x (omega (arith, a)))
         ]
 
--- ---- no vertex twice: each place is the one that is found
+-- ---- no vertex twice: marks of what the list has named
 
--- the rules compare every two places, the program each place with the one that is found
-pub twice-is : (f : Flat) → notTwice? f ≡ all (λ d. eqb (place f (f .own d) (f .nbr d)) d) (f .D)
+-- an array of zeros has 0 at every index
+pub zeros : (n u : ℕ) → getD {A = ℕ} (replicate n 0) u 0 ≡ 0
+zeros zero u = refl
+zeros (suc n) zero = refl
+zeros (suc n) (suc u) = zeros n u
+
+-- two places stand in one list and name one vertex
+abbrev same? : Flat → ℕ → ℕ → Bool
+same? f d e = eqb (f .own d) (f .own e) && eqb (f .nbr d) (f .nbr e)
+
+-- where no list names a vertex twice, such places are one
+twice-no : (f : Flat) → notTwice? f ≡ true → (d e : ℕ) → d < f .D → e < f .D → f .own d ≡ f .own e → f .nbr d ≡ f .nbr e → d ≡ e
 unfolding notTwice?
-twice-is f =
-    same-bool _ _
-    (λ t. true-all _ (f .D) (λ d dl.
-    let w = place-hit f (f .own d) (f .nbr d) d dl refl refl in
-    let e : ℕ = place f (f .own d) (f .nbr d) in
-    let one = all-true (λ d. all (λ e. not (same? d e) || eqb d e) (f .D)) (f .D) t e (w .0) in
-    or-not (same? e d) _ (all-true (λ d. not (same? e d) || eqb e d) (f .D) one d dl) (true-and _ _ (eq-eqb _ _ (w .1)) (eq-eqb _ _ (w .2)))))
-    (λ t. true-all _ (f .D) (λ d dl. true-all _ (f .D) (λ e el. not-or (same? d e) _ (λ s.
+twice-no f t d e dl el p q =
+    let one = all-true (λ d. all (λ e. not (same? f d e) || eqb d e) (f .D)) (f .D) t d dl in
+    let here = all-true (λ e. not (same? f d e) || eqb d e) (f .D) one e el in
+    eqb-true d e (or-not (same? f d e) _ here (true-and _ _ (eq-eqb _ _ p) (eq-eqb _ _ q)))
+
+-- what stands between two places of a list is of that list
+between-own : {f : Flat} → Listed f → (j i k : ℕ) → j ≤ i → i ≤ k → k < f .D → f .own k ≡ f .own j → f .own i ≡ f .own j
+between-own {f} l j i k ji ik kd e =
+    let lo : f .off (f .own j) ≤ i = omega (arith, l .from j (omega arith)) in
+    let hi : i < f .off (f .own j + 1) = omega (arith, l .upto k kd, ap (λ v. f .off (v + 1)) e) in
+    l .within (f .own j) i (l .own-in j (omega arith)) lo hi .1
+
+-- after i places, a mark is one more than the vertex whose list named its index last
+pub record Marks (f : Flat) (i : ℕ) (marks : List ℕ) : Type 0 where
+  pub long : length marks ≡ 256
+  -- whatever is marked was named
+  pub named : (u v : ℕ) → getD marks u 0 ≡ v + 1 → (j : ℕ) × (j < i) × (f .own j ≡ v) × (f .nbr j ≡ u)
+  -- what was named by a list that goes on is marked
+  pub shown : (j k : ℕ) → j < i → i ≤ k → k < f .D → f .own k ≡ f .own j → getD marks (f .nbr j) 0 ≡ f .own j + 1
+  -- and no list has named one twice
+  pub once : (j k : ℕ) → j < k → k < i → f .own j ≡ f .own k → f .nbr j ≡ f .nbr k → ⊥
+
+-- nothing is named yet
+pub marks-none : (f : Flat) (marks : List ℕ) → length marks ≡ 256 → ((u : ℕ) → getD marks u 0 ≡ 0) → Marks f 0 marks
+marks-none f marks l z =
+    record {
+      long = l;
+      named = λ u v e. absurd (omega (arith, z u));
+      shown = λ j k p a b e. absurd (omega arith);
+      once = λ j k a b p q. omega arith;
+    }
+
+module _ {f : Flat} {i : ℕ} {marks : List ℕ} (l : Listed f) (d : i < f .D) (m : Marks f i marks) where
+  -- the list has named the next place's vertex
+  pub marks-stop : getD marks (f .nbr i) 0 ≡ f .own i + 1 → false ≡ notTwice? f
+  marks-stop e =
+      let w = m .named (f .nbr i) (f .own i) e in
+      elim (bool (notTwice? f)) [
+        | inr z ↦ sym z
+        | inl t ↦ absurd (omega (arith, w .1, twice-no f t (w .0) i (omega (arith, w .1)) d (w .2) (w .3)))
+      ]
+
+  -- it has not, and is marked as its owner
+  pub marks-more : f .nbr i < 256 → (getD marks (f .nbr i) 0 ≡ f .own i + 1 → ⊥) → Marks f (i + 1) (set marks (f .nbr i) (f .own i + 1))
+  marks-more small fresh =
+      record {
+        long = length-set marks (f .nbr i) (f .own i + 1) ∙ m .long;
+        named = λ u v e. elim (ℕ-discrete u (f .nbr i)) [
+          | yes q ↦
+              let z : f .own i + 1 ≡ v + 1 = sym here ∙ ap (λ u. getD new u 0) (sym q) ∙ e in
+              (i, omega arith, omega arith, sym q)
+          | no ne ↦
+              let w = m .named u v (sym (other u ne) ∙ e) in
+              (w .0, omega (arith, w .1), w .2, w .3)
+        ];
+        shown = λ j k ji ik kd e. elim (ℕ-discrete (f .nbr j) (f .nbr i)) [
+          | yes q ↦
+              let o = between-own l j i k (omega arith) (omega arith) kd e in
+              ap (λ u. getD new u 0) q ∙ here ∙ ap (λ v. v + 1) o
+          | no ne ↦
+              let ji′ : j ≢ i = λ z. ne (ap (f .nbr) z) in
+              other (f .nbr j) ne ∙ m .shown j k (omega (arith, ji′)) (omega arith) kd e
+        ];
+        once = λ j k jk ki p q. elim (ℕ-discrete k i) [
+          | no ne ↦ m .once j k jk (omega (arith, ne)) p q
+          | yes z ↦
+              let o : f .own j ≡ f .own i = p ∙ ap (f .own) z in
+              fresh (ap (λ u. getD marks u 0) (sym (q ∙ ap (f .nbr) z)) ∙ m .shown j i (omega arith) (omega arith) d (sym o) ∙ ap (λ v. v + 1) o)
+        ];
+      }
+    where
+      new : List ℕ
+      new = set marks (f .nbr i) (f .own i + 1)
+
+      here : getD new (f .nbr i) 0 ≡ f .own i + 1
+      here = getD-set-same marks (f .nbr i) (f .own i + 1) 0 (omega (arith, m .long))
+
+      other : (u : ℕ) → u ≢ f .nbr i → getD new u 0 ≡ getD marks u 0
+      other u ne = getD-set-other marks (f .nbr i) u (f .own i + 1) 0 ne
+
+-- there is no other place
+pub marks-all : {f : Flat} {i : ℕ} {marks : List ℕ} → Marks f i marks → f .D ≤ i → true ≡ notTwice? f
+unfolding notTwice?
+marks-all {f} {i} m l =
+    sym (true-all _ (f .D) (λ d dl. true-all _ (f .D) (λ e el. not-or (same? f d e) _ (λ s.
     let w = both (eqb (f .own d) (f .own e)) _ s in
-    let found = all-true (λ d. eqb (place f (f .own d) (f .nbr d)) d) (f .D) t in
-    let p = eqb-true _ _ (found d dl) in
-    let q = eqb-true _ _ (found e el) in
-    eq-eqb d e (sym p ∙ ap (λ v. place f v (f .nbr d)) (eqb-true _ _ (w .0)) ∙ ap (place f (f .own e)) (eqb-true _ _ (w .1)) ∙ q)))))
+    eq-eqb d e (one d e dl el (eqb-true _ _ (w .0)) (eqb-true _ _ (w .1)))))))
   where
-    same? : ℕ → ℕ → Bool
-    same? d e = eqb (f .own d) (f .own e) && eqb (f .nbr d) (f .nbr e)
+    one : (d e : ℕ) → d < f .D → e < f .D → f .own d ≡ f .own e → f .nbr d ≡ f .nbr e → d ≡ e
+    one d e dl el p q =
+        elim (decLe d e) [
+          | no a ↦ absurd (m .once e d (omega (arith, a)) (omega arith) (sym p) (sym q))
+          | yes a ↦ elim (ℕ-discrete d e) [ yes z ↦ z | no ne ↦ absurd (m .once d e (omega (arith, ne)) (omega arith) p q) ]
+        ]
 
 -- ---- filling an array by a function of the index
 

@@ -92,7 +92,35 @@ fn not_self(
     true
 }
 
-// Whether none names "one vertex twice".
+// Whether none names "one vertex twice": marks[u], 0 at first, is v + 1 where v's list named u last. The lists stand one
+// behind another, so one pass tells.
+fn marked_once(
+    n: u8,
+    d: usize,
+    off: &[u16; START_ROOM],
+    own: &[u8; PLACE_ROOM],
+    nbr: &[u8; PLACE_ROOM],
+    marks: &mut [u8; VERTEX_ROOM],
+) -> bool
+    requires { ⌜ Kept n d (now off) (now own) (now nbr) × (length (now marks) ≡ 256) × ((u : ℕ) → getD (now marks) u 0 ≡ 0) ⌝ }
+    ensures { λ r. ⌜ r ≡ notTwice? (flatOf n d (now (off .entry)) (now (own .entry)) (now (nbr .entry))) ⌝ }
+{
+    let mut i = 0;
+    while i < d {
+        let v = own[i];
+        let u = wide(nbr[i]);
+        let mark = v + 1;
+        let last = marks[u];
+        if last == mark {
+            return false;
+        }
+        marks[u] = mark;
+        i += 1;
+    }
+    true
+}
+
+// The same, with marks of its own.
 fn not_twice(
     n: u8,
     d: usize,
@@ -103,17 +131,8 @@ fn not_twice(
     requires { ⌜ Kept n d (now off) (now own) (now nbr) ⌝ }
     ensures { λ r. ⌜ r ≡ notTwice? (flatOf n d (now (off .entry)) (now (own .entry)) (now (nbr .entry))) ⌝ }
 {
-    let mut i = 0;
-    while i < d {
-        let v = own[i];
-        let u = nbr[i];
-        let e = place_of(n, d, off, own, nbr, v, u);
-        if e != i {
-            return false;
-        }
-        i += 1;
-    }
-    true
+    let mut marks = [0; VERTEX_ROOM];
+    marked_once(n, d, off, own, nbr, &mut marks)
 }
 
 // Whether "every line stands in both lists"; if so, bk has where.
