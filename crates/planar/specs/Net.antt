@@ -5,20 +5,20 @@ use mathlib.Core.List.{List, [], _∷_, _++_}
 use mathlib.Core.Bool.{true, false}
 use native.Mathlib.Omega.{arith}
 use native.Mathlib.Decide.{decLt}
-use lib.ListN.{length, getD, drop, replicate, length-replicate, getD-replicate, List·getD-append, List·getD-eq-default}
+use lib.ListN.{length, getD, drop, replicate, length-replicate, List·getD-append, List·getD-eq-default}
 use lib.Seq.{getD-append-add, getD-drop}
 use lib.Dec.{leb}
 use borrow.Author.Tests.{ne-eqb, leb-true}
 use Rattle.rules.specs.Bools.{both}
 use Rattle.planar_rules.specs.PlanarCode.{Flat, nOf, body, lists?, formed?, neighbours, owners, ends, netOf, taken?}
 use Rattle.planar_sphere.specs.Count.{clash}
-use Rattle.planar_sphere.specs.Flat.{Listed}
-use Rattle.planar_sphere.specs.Check.{Valid, taken-yes}
+use Rattle.planar_sphere.specs.Flat.{Listed, Valid}
+use Rattle.planar_sphere.specs.Check.{taken-yes}
 use Rattle.planar_order.specs.File.{four, byte, listed, all-lists}
 use Rattle.planar_order.specs.Theorem.{Ordered, ordered, own-first}
 use Rattle.planar_reading.specs.Laws.{Filled}
 use Rattle.planar_judging.specs.Arrays.{flatOf, Kept}
-use Rattle.planar_judging.specs.Laws.{taken-count}
+use Rattle.planar_judging.specs.Laws.{zeros, taken-count}
 
 -- an array of so many zeros
 pub record Zeros (size : ℕ) (l : List ℕ) : Type 0 where
@@ -26,15 +26,7 @@ pub record Zeros (size : ℕ) (l : List ℕ) : Type 0 where
   pub zero-at : (j : ℕ) → getD l j 0 ≡ 0
 
 pub zeros-in : (size : ℕ) → Zeros size (replicate size 0)
-zeros-in size =
-    record {
-      long = length-replicate {A = ℕ} size 0;
-      zero-at = λ j.
-          elim (decLt j size) [
-            | yes l ↦ getD-replicate size j 0 0 l
-            | no l ↦ List·getD-eq-default (replicate size 0) 0 {n = j} (rw (length-replicate {A = ℕ} size 0) (omega (arith, l)))
-          ];
-    }
+zeros-in size = record { long = length-replicate {A = ℕ} size 0; zero-at = zeros size }
 
 -- how many places the lists have
 abbrev pub placesOf : List ℕ → ℕ

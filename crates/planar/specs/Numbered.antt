@@ -9,12 +9,12 @@ use lib.ListN.{length, getD, take, drop}
 use lib.Seq.{getD-take, drop-cons}
 use Rattle.rules.specs.Basics.{indexOf}
 use Rattle.rules.specs.Entries.{wordOf}
-use Rattle.rules.specs.Records.{bytesOf, written, orderHead, pointEntries, endShape, orderMark, entriesMark, endMark}
+use Rattle.rules.specs.Records.{bytesOf, orderMark, entriesMark, endMark}
 use Rattle.rules.specs.Lengths.{bytes-append, length-bytes}
 use Rattle.planar_rules.specs.PlanarCode.{Flat, Point, points, vertices, pointOf, plain, entryWords, records, orderFile, vertexList, first, second}
-use Rattle.planar_order.specs.Numbering.{AllLines, Lines, more as another}
+use Rattle.planar_order.specs.Numbering.{AllLines, more as another}
 use Rattle.planar_order.specs.Theorem.{Ordered, order-length, list-length}
-use Rattle.planar_judging.specs.Arrays.{flatOf, Kept}
+use Rattle.planar_judging.specs.Arrays.{flatOf}
 use Rattle.planar_choosing.specs.Choosing.{Positions, Apart}
 use Rattle.planar_numbering.specs.Points.{pointsIn}
 use Rattle.planar_numbering.specs.Numbered.{AllNumbered}

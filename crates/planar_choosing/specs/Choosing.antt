@@ -6,7 +6,7 @@ use mathlib.Core.Bool.{Bool, true, false, _&&_, and-false}
 use native.Mathlib.Omega.{arith}
 use native.Mathlib.Numerals.{add-one}
 use native.Mathlib.Decide.{ℕ-discrete, decLt}
-use lib.ListN.{length, getD, set, length-set, replicate, getD-replicate, List·getD-eq-default, length-replicate}
+use lib.ListN.{length, getD, set, length-set}
 use lib.Seq.{getD-set-same, getD-set-other}
 use lib.Dec.{ltb}
 use borrow.Author.Tests.{lt-ltb, le-ltb}
@@ -34,14 +34,6 @@ Apart b m = (x y : ℕ) → x < m → y < m → getD b x 0 ≡ getD b y 0 → x 
 -- v's list lies within the array of neighbours
 abbrev pub Within : List ℕ → ℕ → Type 0
 Within off v = (getD off v 0 ≤ getD off (v + 1) 0) × (getD off (v + 1) 0 ≤ 1536)
-
--- an array of zeros has 0 at every index
-pub zeros : (n v : ℕ) → getD {A = ℕ} (replicate n 0) v 0 ≡ 0
-zeros n v =
-    elim (decLt v n) [
-      | yes l ↦ getD-replicate n v 0 0 l
-      | no l ↦ List·getD-eq-default (replicate n 0) 0 {n = v} (rw (length-replicate {A = ℕ} n 0) (omega (arith, l)))
-    ]
 
 -- none stands yet
 pub pos-none : (b pos : List ℕ) → length pos ≡ 256 → ((v : ℕ) → getD pos v 0 ≡ 0) → Positions b 0 pos

@@ -16,7 +16,7 @@ use Rattle.promise.specs.Promise.{IsLine}
 use Rattle.exchange.specs.Entries.{entriesAt, listed}
 use Rattle.exchange.specs.DrawingRead.{standing}
 use Rattle.planar_rules.specs.PlanarCode.{Flat, Point, first, second, points, vertices, pointOf}
-use Rattle.planar_sphere.specs.Check.{Valid}
+use Rattle.planar_sphere.specs.Flat.{Valid}
 use Rattle.planar_order.specs.Model.{Distinct, index-is}
 use Rattle.planar_order.specs.Theorem.{Ordered, entriesOf}
 use Rattle.planar_drawn.specs.Growing.{plains, points-plain}

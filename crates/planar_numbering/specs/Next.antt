@@ -11,8 +11,8 @@ use Rattle.rules.specs.Indices.{index-at}
 use Rattle.planar_rules.specs.PlanarCode.{Flat, place, run, lowest, open?, next, Point, pointAt, comesOff, without, number}
 use Rattle.planar_sphere.specs.Count.{count}
 use Rattle.planar_sphere.specs.Arc.{turn-in}
-use Rattle.planar_sphere.specs.Flat.{Listed, bound}
-use Rattle.planar_sphere.specs.Check.{Valid, good, net-of}
+use Rattle.planar_sphere.specs.Flat.{Listed, bound, Valid}
+use Rattle.planar_sphere.specs.Check.{good, net-of}
 use Rattle.planar_sphere.specs.Program.{Is, Free}
 use Rattle.planar_order.specs.Seqs.{new-length}
 use Rattle.planar_order.specs.Model.{Distinct}

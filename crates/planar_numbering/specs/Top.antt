@@ -7,8 +7,8 @@ use lib.ListN.{length, getD, take, drop, set, length-set, drop-of-length-le}
 use lib.Seq.{getD-take, length-take-le, ext-getD, getD-drop}
 use Rattle.planar_rules.specs.PlanarCode.{Flat, after, back, place, run, topPoint, top, second, first}
 use Rattle.planar_sphere.specs.Arc.{turn-in}
-use Rattle.planar_sphere.specs.Flat.{Listed, after-both}
-use Rattle.planar_sphere.specs.Check.{Valid, net-of}
+use Rattle.planar_sphere.specs.Flat.{Listed, after-both, Valid}
+use Rattle.planar_sphere.specs.Check.{net-of}
 use Rattle.planar_order.specs.Numbering.{Going, total, goes-first, fits, z-in, start-is, E-gathers, hit, no-hit, p-in}
 use Rattle.planar_judging.specs.Arrays.{flatOf, Kept, afterIn}
 use Rattle.planar_numbering.specs.Gathering.{Gatherable, Gathered}

@@ -7,7 +7,7 @@ ghost use mathlib.Core.List.{[]};
 ghost use Rattle.planar_rules.specs.PlanarCode.{place, run, gather};
 ghost use Rattle.planar_judging.specs.Arrays.{flatOf, Kept};
 ghost use Rattle.planar_numbering.specs.Gathering.{Gatherable, Gathered};
-ghost use Rattle.planar_numbering.specs.Boundary.{boundaryVertex};
+ghost use Rattle.planar_numbering.specs.Boundary.{boundaryVertex, Copied};
 ghost use Rattle.planar_numbering.specs.Top.{Begin, Ready, TopNumbered};
 ghost use Rattle.planar_numbering.specs.Next.{NextNumbered};
 ghost use Rattle.planar_numbering.specs.Numbered.{CountedDown, AllNumbered};
@@ -69,29 +69,19 @@ fn gather_entries(
     gather_run(n, d, off, own, nbr, d0, left, ent, s)
 }
 
-// The x-th vertex of the new boundary: len entries, from ent's place s on, stand in place of b's three from the a-th on.
-fn boundary_vertex(
-    b: &[u8; VERTEX_ROOM],
-    ent: &[u8; ENTRY_ROOM],
-    a: usize,
-    s: usize,
-    len: usize,
-    x: usize,
-) -> u8
-    requires { ⌜ (a < 256) × (s + len ≤ 768) × (x + 3 < 256 + len) ⌝ }
-    ensures { λ r. ⌜ r ≡ boundaryVertex (now (b .entry)) (now (ent .entry)) a s len x ⌝ }
+// Copies `count` vertices, from src's place `from` on, to c, from its place `at` on.
+fn copy(src: &[u8], from: usize, count: usize, c: &mut [u8; VERTEX_ROOM], at: usize)
+    requires { ⌜ (from + count ≤ length (now src)) × (at + count ≤ 256) × (length (now c) ≡ 256) ⌝ }
+    ensures { λ _. ⌜ Copied (now (src .entry)) from count at (now (c .entry)) (now (c .exit)) ⌝ }
 {
-    if x < a {
-        return b[x];
+    let mut i = 0;
+    while i < count {
+        c[at + i] = src[from + i];
+        i += 1;
     }
-    let e = a + len;
-    if x < e {
-        return ent[s + (x - a)];
-    }
-    b[x + 3 - len]
 }
 
-// Puts the whole new boundary, m + len - 3 vertices, into c.
+// Puts the whole new boundary, m + len - 3 vertices, into c: len entries, from ent's place s on, stand in place of b's three from the a-th on.
 fn put_boundary(
     b: &[u8; VERTEX_ROOM],
     m: usize,
@@ -104,12 +94,9 @@ fn put_boundary(
     requires { ⌜ (m ≤ 256) × (a + 3 ≤ m) × (s + len ≤ 768) × (2 ≤ len) × (m + len ≤ 258) × (length (now c) ≡ 256) ⌝ }
     ensures { λ _. ⌜ (length (now (c .exit)) ≡ 256) × ((x : ℕ) → x < m + len - 3 → getD (now (c .exit)) x 0 ≡ boundaryVertex (now (b .entry)) (now (ent .entry)) a s len x) ⌝ }
 {
-    let last = m + len - 3;
-    let mut x = 0;
-    while x < last {
-        c[x] = boundary_vertex(b, ent, a, s, len, x);
-        x += 1;
-    }
+    copy(b, 0, a, c, 0);
+    copy(ent, s, len, c, a);
+    copy(b, a + 3, m - (a + 3), c, a + len);
 }
 
 // Numbers the next point, the one with index k: its vertex goes into ver, the number of its entries into ln, its entries
@@ -145,18 +132,6 @@ fn number_next(
     len
 }
 
-// Puts len entries, from s on, at the start of b.
-fn put_first_boundary(ent: &[u8; ENTRY_ROOM], s: usize, len: usize, b: &mut [u8; VERTEX_ROOM])
-    requires { ⌜ (s + len ≤ 768) × (len ≤ 256) × (length (now b) ≡ 256) ⌝ }
-    ensures { λ _. ⌜ (length (now (b .exit)) ≡ 256) × ((x : ℕ) → x < len → getD (now (b .exit)) x 0 ≡ getD (now (ent .entry)) (s + x) 0) ⌝ }
-{
-    let mut x = 0;
-    while x < len {
-        b[x] = ent[s + x];
-        x += 1;
-    }
-}
-
 // Numbers point n, whose entries, from vertex 1 to its first listed neighbour, are the first boundary.
 // Returns where they begin.
 fn number_top(
@@ -181,7 +156,7 @@ fn number_top(
     let k = wide(n) - 1;
     ver[k] = v;
     ln[k] = len as u8;
-    put_first_boundary(ent, s, len, b);
+    copy(ent, s, len, b, 0);
     s
 }
 

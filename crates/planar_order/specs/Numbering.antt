@@ -12,8 +12,8 @@ use Rattle.planar_rules.specs.PlanarCode.{Flat, after, back, place, run, next, 
 use Rattle.planar_sphere.specs.Count.{count, put, count-put, count-none, count-same}
 use Rattle.planar_sphere.specs.Map.{Map, Net, turn}
 use Rattle.planar_sphere.specs.Arc.{turn-zero, turn-suc, turn-in, turn-org}
-use Rattle.planar_sphere.specs.Flat.{Listed, once, before}
-use Rattle.planar_sphere.specs.Check.{Valid, net-of, back-own, place-hit}
+use Rattle.planar_sphere.specs.Flat.{Listed, once, before, Valid}
+use Rattle.planar_sphere.specs.Check.{net-of, back-own, place-hit}
 use Rattle.planar_sphere.specs.Order.{sound, line-12, size}
 use Rattle.planar_sphere.specs.Program.{State, Is, Free, net-map, begins}
 use Rattle.planar_order.specs.Seqs.{gathers, new-length}

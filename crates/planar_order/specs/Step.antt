@@ -16,10 +16,10 @@ use Rattle.planar_sphere.specs.Count.{count, put}
 use Rattle.planar_sphere.specs.Map.{Map, Net, turn, end}
 use Rattle.planar_sphere.specs.Shell.{Shell, Rim}
 use Rattle.planar_sphere.specs.Arc.{Arc, arc, some-step, on-arc, turn-in, turn-org}
-use Rattle.planar_sphere.specs.Flat.{Listed, round}
-use Rattle.planar_sphere.specs.Check.{Valid, net-of, back-own, place-hit, true-and, or-not, not-or, all-true, true-all}
+use Rattle.planar_sphere.specs.Flat.{Listed, round, Valid}
+use Rattle.planar_sphere.specs.Check.{net-of, back-own, place-hit, true-and, or-not, not-or, all-true, true-all}
 use Rattle.planar_sphere.specs.Order.{sound}
-use Rattle.planar_sphere.specs.Program.{State, Is, Free, Goes, net-map, pick, goes, fewer}
+use Rattle.planar_sphere.specs.Program.{turned-nbr, State, Is, Free, Goes, net-map, pick, goes, fewer}
 use Rattle.planar_order.specs.Model.{index-is as stood}
 use Rattle.planar_order.specs.Seqs.{lowest-hit, new-length, new-low, new-run, new-high, gathers}
 
@@ -156,19 +156,16 @@ module _ (f : Flat) (l : Listed f) (v : Valid f) where
       before-end : end g (g .α (h .b a)) ≡ getD b a 0
       before-end = ap (g .org) (n .αα _ al) ∙ sym (i .w a (omega (arith, tm′)))
 
-      step-nbr : (k : ℕ) → end g (turn g k (h .b t)) ≡ f .nbr (turn g k d0)
-      step-nbr k = back-own v _ (turn-in n k _ tl) ∙ ap (λ d. f .nbr (turn g k d)) (sym is-d0)
-
       same-own : f .own (h .b t) ≡ f .own (g .α (h .b a))
       same-own = sym (rim .chain a t (sym at) (omega (arith, tm′)))
 
       pub hit : f .nbr (turn g p d0) ≡ getD b a 0
-      hit = sym (step-nbr p) ∙ ap (end g) (its-arc .1 .at-end) ∙ before-end
+      hit = sym (turned-nbr f l v p (h .b t) d0 tl is-d0) ∙ ap (end g) (its-arc .1 .at-end) ∙ before-end
 
       pub no-hit : (k : ℕ) → k < p → f .nbr (turn g k d0) ≢ getD b a 0
       no-hit k kp e =
           its-arc .1 .first k kp
-          (n .simple _ _ (turn-in n k _ tl) (n .α-in _ al) (turn-org n k _ tl ∙ same-own) (step-nbr k ∙ e ∙ sym before-end))
+          (n .simple _ _ (turn-in n k _ tl) (n .α-in _ al) (turn-org n k _ tl ∙ same-own) (turned-nbr f l v k (h .b t) d0 tl is-d0 ∙ e ∙ sym before-end))
 
       pub p-in : p < f .D
       p-in =

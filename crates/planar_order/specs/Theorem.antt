@@ -16,8 +16,8 @@ use Rattle.rules.specs.Lengths.{length-bytes}
 use Rattle.planar_rules.specs.PlanarCode.{Flat, netOf, formed?, taken?, Point, comesOff, number, first, second, top, topPoint, points, vertices, pointOf, plain, entryWords, records, orderFile, vertexList}
 use Rattle.planar_sphere.specs.Count.{bool, clash, count, count-max, put, put-else, put-case, count-put, count-same}
 use Rattle.planar_sphere.specs.Map.{Net}
-use Rattle.planar_sphere.specs.Flat.{Listed, bound}
-use Rattle.planar_sphere.specs.Check.{Valid, good, net-of, back-own, taken-yes}
+use Rattle.planar_sphere.specs.Flat.{Listed, bound, Valid}
+use Rattle.planar_sphere.specs.Check.{good, net-of, back-own, taken-yes}
 use Rattle.planar_sphere.specs.Order.{sound, point-1, line-12, size}
 use Rattle.planar_sphere.specs.Program.{net-map}
 use Rattle.planar_order.specs.File.{four, listed}

@@ -14,7 +14,7 @@ use Rattle.planar_rules.specs.PlanarCode.{all, seek, Flat, after, place, back, 
 use Rattle.planar_sphere.specs.Count.{bool, clash}
 use Rattle.planar_sphere.specs.Tree.{merge-in, merge-out, merge-join, merge-same}
 use Rattle.planar_sphere.specs.Map.{Net}
-use Rattle.planar_sphere.specs.Flat.{Listed, Good, map, net}
+use Rattle.planar_sphere.specs.Flat.{Listed, Joined, Valid, Good, map, net}
 
 -- ---- tests over all numbers below a bound
 
@@ -74,9 +74,6 @@ labels-same f s (suc k) h x = go (λ y. labels-same f s k (λ d l. h d (omega ar
           | no ne ↦ ap s (merge-out (labels f k) (f .own k) (f .nbr k) x ne) ∙ ih x
         ]
 
-abbrev pub Joined : Flat → Type 0
-Joined f = (s : ℕ → ℕ) → ((d : ℕ) → d < f .D → s (f .own d) ≡ s (f .nbr d)) → (x y : ℕ) → x < f .n → y < f .n → s x ≡ s y
-
 pub joined-yes : (f : Flat) → joined? f ≡ true → Joined f
 unfolding joined?
 joined-yes f t s h x y xl yl =
@@ -111,31 +108,11 @@ pub place-in : (f : Flat) (v u : ℕ) → place f v u < f .D → (f .own (place 
 unfolding place
 place-in f v u l = at-true f v u _ (seek-miss (at? f v u) (f .D) (f .D) (le-refl _) l)
 
-pub record Valid (f : Flat) : Type 0 where
-  pub four : 4 ≤ f .n
-  pub self : (d : ℕ) → d < f .D → f .nbr d ≢ f .own d
-  pub twice : (d e : ℕ) → d < f .D → e < f .D → f .own d ≡ f .own e → f .nbr d ≡ f .nbr e → d ≡ e
-  pub both : (d : ℕ) → d < f .D → (e : ℕ) × (e < f .D) × (f .own e ≡ f .nbr d) × (f .nbr e ≡ f .own d)
-  pub joined : Joined f
-  pub lines : f .D + 12 ≡ 6 * f .n
-  pub faces : (d : ℕ) → d < f .D → after f (back f (after f (back f (after f (back f d))))) ≡ d
-
 pub good : {f : Flat} → Valid f → Good f
 good {f} v =
     let hit : (d : ℕ) → d < f .D → (back f d < f .D) × (f .own (back f d) ≡ f .nbr d) × (f .nbr (back f d) ≡ f .own d) =
     λ d dl. let e = v .both d dl in place-hit f (f .nbr d) (f .own d) (e .0) (e .1) (e .2) (e .3) in
-    record {
-      four = v .four;
-      self = v .self;
-      twice = v .twice;
-      back = back f;
-      back-in = λ d dl. hit d dl .0;
-      back-own = λ d dl. hit d dl .1;
-      back-nbr = λ d dl. hit d dl .2;
-      joined = v .joined;
-      lines = v .lines;
-      faces = v .faces;
-    }
+    record { valid = v; back-in = λ d dl. hit d dl .0; back-own = λ d dl. hit d dl .1; back-nbr = λ d dl. hit d dl .2 }
 
 pub back-own : {f : Flat} (v : Valid f) (d : ℕ) → d < f .D → f .own (back f d) ≡ f .nbr d
 unfolding good

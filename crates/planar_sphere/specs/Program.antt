@@ -8,13 +8,13 @@ use native.Mathlib.Decide.{decLt}
 use Rattle.planar_rules.specs.PlanarCode.{Flat, after, back}
 use Rattle.planar_sphere.specs.Count.{put, put-same, count, count-put, count-same}
 use Rattle.planar_sphere.specs.Map.{Map, Net, end, turn, φ}
-use Rattle.planar_sphere.specs.Flat.{Listed, map, once, before}
+use Rattle.planar_sphere.specs.Flat.{Listed, map, once, before, Valid}
 use Rattle.planar_sphere.specs.Shell.{Shell, Rim}
 use Rattle.planar_sphere.specs.Cross.{Chordless}
 use Rattle.planar_sphere.specs.Arc.{Arc, arc-of, turn-in, turn-org, turn-suc, far-org}
 use Rattle.planar_sphere.specs.Take.{Taken, run, below, above}
 use Rattle.planar_sphere.specs.Open.{Opened, hub}
-use Rattle.planar_sphere.specs.Check.{Valid, net-of, back-own}
+use Rattle.planar_sphere.specs.Check.{net-of, back-own}
 use Rattle.planar_sphere.specs.Order.{Shelled, sound, never-stuck, take, take-is, next, first, start}
 
 pub record State : Type 0 where
@@ -59,6 +59,10 @@ module _ (f : Flat) (l : Listed f) (v : Valid f) where
 
   ends-nbr : (d : ℕ) → d < f .D → end (net-map f) d ≡ f .nbr d
   ends-nbr d dl = back-own v d dl
+
+  -- the vertex k places on from d, which is e
+  pub turned-nbr : (k d e : ℕ) → d < f .D → e ≡ d → end (net-map f) (turn (net-map f) k d) ≡ f .nbr (turn (net-map f) k e)
+  turned-nbr k d e dl q = ends-nbr _ (turn-in n k d dl) ∙ ap (λ x. f .nbr (turn (net-map f) k x)) (sym q)
 
   chordless : (s : State) (i : Is f s) (t : ℕ) → t < s .m → Free f s t → Chordless (net-map f) (i .h) t
   chordless s i t tl free d k dl kl p q =
@@ -109,15 +113,12 @@ module _ (f : Flat) (l : Listed f) (v : Valid f) where
     before-end : end g (g .α (h .b a)) ≡ s .w a
     before-end = ap (g .org) (n .αα _ al) ∙ sym (i .w a (omega (arith, tm′)))
 
-    step-nbr : (k : ℕ) → end g (turn g k (h .b t)) ≡ f .nbr (turn g k d0)
-    step-nbr k = ends-nbr _ (turn-in n k _ tl) ∙ ap (λ d. f .nbr (turn g k d)) (sym is-d0)
-
     its-arc : Arc g h a t p
     its-arc =
         arc-of n rim a t at tm′ p
-        (λ k kp e. go .not-yet k kp (sym (step-nbr k) ∙ ap (end g) e ∙ before-end))
+        (λ k kp e. go .not-yet k kp (sym (turned-nbr k (h .b t) d0 tl is-d0) ∙ ap (end g) e ∙ before-end))
         (n .simple _ _ (turn-in n p _ tl) (n .α-in _ al) (turn-org n p _ tl ∙ sym (rim .chain a t (sym at) (omega (arith, tm′))))
-        (step-nbr p ∙ go .hit ∙ sym before-end))
+        (turned-nbr p (h .b t) d0 tl is-d0 ∙ go .hit ∙ sym before-end))
 
     less : Chordless g h t
     less = chordless s i t (omega arith) free
@@ -133,7 +134,7 @@ module _ (f : Flat) (l : Listed f) (v : Valid f) where
           | no b ↦ elim (decLt x (t + p)) [
             | yes c ↦
                 let j : ℕ = t + p - (x + 1) in
-                go .run x j (omega (arith, b)) (omega arith) ∙ sym (step-nbr j) ∙ sym (run n rim a t p its-arc less its-taken x j (omega (arith, b)) (omega (arith, at)))
+                go .run x j (omega (arith, b)) (omega arith) ∙ sym (turned-nbr j (h .b t) d0 tl is-d0) ∙ sym (run n rim a t p its-arc less its-taken x j (omega (arith, b)) (omega (arith, at)))
             | no c ↦
                 let y : ℕ = x + 2 - p in
                 let q : y + p ≡ x + 2 = omega (arith, c) in

@@ -1,10 +1,7 @@
 -- `planar::judge` meets its contract: 14, then 15.
-use mathlib.Core.Path.{_≡_, refl, ap, sym, _∙_, subst}
-use mathlib.Core.Bool.{true, false}
+use mathlib.Core.Path.{refl, sym, _∙_}
 use native.Mathlib.Omega.{arith}
-use lib.ListN.{length}
 use borrow.Author.Tests.{not-true, not-false}
-use Rattle.planar_rules.specs.PlanarCode.{formed?}
 use Rattle.planar.specs.Net.{too-many}
 use Rattle.planar.specs.Judged.{bad-code, no-net, long, arrays-kept, arrays-refused, arrays-taken}
 use borrow.Author.Needs.{needs}

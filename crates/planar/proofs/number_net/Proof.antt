@@ -1,5 +1,5 @@
 -- `planar::number_net` meets its contract: the points are numbered, and each vertex has its number.
-use mathlib.Core.Path.{_≡_, refl, sym, subst}
+use mathlib.Core.Path.{sym, subst}
 use native.Mathlib.Omega.{arith}
 use Rattle.planar_choosing.specs.Choosing.{Positions, Apart}
 use Rattle.planar.specs.Net.{n-byte, its-valid, its-first}

@@ -1,5 +1,5 @@
 -- `planar::put_fitting` meets its contract: 24 for either buffer, or both are written.
-use mathlib.Core.Path.{refl, sym, _∙_}
+use mathlib.Core.Path.{refl}
 use native.Mathlib.Omega.{arith}
 use Rattle.planar.specs.Numbered.{order-size, list-size}
 use Rattle.planar.specs.Outcome.{fills-no-order, fills-no-list, fills-both}

@@ -1,7 +1,7 @@
 -- `planar_choosing::choose` meets its contract: the positions, the lowest open vertex by them, and its own.
 use mathlib.Core.Path.{refl}
 use borrow.Author.Needs.{needs}
-use Rattle.planar_choosing.specs.Choosing.{zeros}
+use Rattle.planar_judging.specs.Laws.{zeros}
 use Rattle.planar_choosing.proofs.choose.Statement.{statement}
 use Rattle.planar_choosing.proofs.choose.Tie as tie
 

@@ -1,5 +1,4 @@
 -- `planar_choosing::open` meets its contract: off the boundary or first, last, or between.
-use Prim.Native.Nat.{_-_}
 use mathlib.Core.Path.{sym, _∙_}
 use native.Mathlib.Omega.{arith}
 use borrow.Author.Needs.{needs}

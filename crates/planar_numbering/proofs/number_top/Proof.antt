@@ -1,6 +1,8 @@
 -- `planar_numbering::number_top` meets its contract: the place after place 0 names the vertex, and its entries go to b.
+use mathlib.Core.Path.{_∙_}
 use native.Mathlib.Omega.{arith}
 use borrow.Author.Needs.{needs}
+use Rattle.planar_numbering.specs.Boundary.{copied-start}
 use Rattle.planar_numbering.specs.Top.{e-in, top-in, top-gatherable, top-low, top-byte, top-numbered}
 use Rattle.planar_numbering.proofs.number_top.Statement.{statement}
 use Rattle.planar_numbering.proofs.number_top.Tie as tie
@@ -45,21 +47,22 @@ cast-ln c =
 element-write-ln : tie.Need-element-write-ln
 element-write-ln c = omega (arith, c .wide .ensures)
 
-put-first-boundary-requires : tie.Need-put-first-boundary-requires
-put-first-boundary-requires c κs =
-    let g = c .before .before .before in
+copy-requires : tie.Need-copy-requires
+copy-requires c κs =
+    let g = c .before .before .before .before in
     let h = found g in
     let p = h .before .before .pre in
     let e = h .after .ensures in
-    (omega (arith, top-low p e (g .gather-entries .ensures)), omega (arith, top-byte p e (g .gather-entries .ensures)), p .b-size)
+    let w = g .gather-entries .ensures in
+    (omega (arith, top-low p e w, w .same, p .ent-size), omega (arith, top-byte p e w), p .b-size)
 
 returns : tie.Need-returns
 returns c =
-    let w = c .before .before .before in
+    let w = c .before .before .before .before in
     let g = w .before in
     let h = found g in
-    let b = c .put-first-boundary .ensures in
-    top-numbered (h .before .before .pre) (h .after .ensures) (g .gather-entries .ensures) (w .wide .ensures .0) (b .0) (b .1)
+    let p = h .before .before .pre in
+    top-numbered p (h .after .ensures) (g .gather-entries .ensures) (w .wide .ensures .0) (c .copy .ensures .size ∙ p .b-size) (copied-start (c .copy .ensures))
 
 pub number-top-spec : {M : Type 1} → statement M
 number-top-spec =
@@ -75,5 +78,5 @@ number-top-spec =
     element-write-ver
     cast-ln
     element-write-ln
-    put-first-boundary-requires
+    copy-requires
     returns)

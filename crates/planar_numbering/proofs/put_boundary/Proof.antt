@@ -1,67 +1,49 @@
--- `planar_numbering::put_boundary` meets its contract: the first x vertices of c are those of the new boundary.
-use Prim.Native.Nat.{ℕ, _-_, _<_, _≤_}
-use mathlib.Core.Path.{_≡_}
-use native.Mathlib.Omega.{arith}
+-- `planar_numbering::put_boundary` meets its contract: what stands left of the place, the entries, and what stands right of it are copied.
+use mathlib.Core.Path.{_∙_}
 use borrow.Author.Needs.{needs}
-use lib.ListN.{length, getD, length-set}
-use Rattle.planar_judging.specs.Laws.{set-more}
-use Rattle.planar_numbering.specs.Boundary.{boundaryVertex}
+use Rattle.planar_numbering.specs.Boundary.{three-copied}
 use Rattle.planar_numbering.proofs.put_boundary.Statement.{statement}
 use Rattle.planar_numbering.proofs.put_boundary.Tie as tie
 
-abbrev Inv-loop : tie.InvT-loop
-Inv-loop b m ent a s len c₀ last x₀ c x = (x ≤ last) × (length c ≡ 256) × ((k : ℕ) → k < x → getD c k 0 ≡ boundaryVertex b ent a s len k)
+copy-requires : tie.Need-copy-requires
+copy-requires c κs = search needs
 
-abbrev μ-loop : tie.MeasureT-loop
-μ-loop b m ent a s len c₀ last x₀ c x = last - x
+copy-requires-2 : tie.Need-copy-requires-2
+copy-requires-2 c κs = search needs
 
-add-last : tie.Need-add-last Inv-loop μ-loop
-add-last c = search needs
+add-copy : tie.Need-add-copy
+add-copy c = search needs
 
-sub-last : tie.Need-sub-last Inv-loop μ-loop
-sub-last c = search needs
+add-copy-2 : tie.Need-add-copy-2
+add-copy-2 c = search needs
 
-loop-holds : tie.Need-loop-holds Inv-loop μ-loop
-loop-holds c = (omega arith, c .pre .5, λ k l. absurd (omega arith))
+sub-copy : tie.Need-sub-copy
+sub-copy c = search needs
 
-boundary-vertex-requires : tie.Need-boundary-vertex-requires Inv-loop μ-loop
-boundary-vertex-requires c κs = search needs
+add-copy-3 : tie.Need-add-copy-3
+add-copy-3 c = search needs
 
-element-write-c : tie.Need-element-write-c Inv-loop μ-loop
-element-write-c c = search needs
+copy-requires-3 : tie.Need-copy-requires-3
+copy-requires-3 c κs = search needs
 
-add-x : tie.Need-add-x Inv-loop μ-loop
-add-x c = search needs
-
-loop-less : tie.Need-loop-less Inv-loop μ-loop
-loop-less c = search needs
-
-loop-again : tie.Need-loop-again Inv-loop μ-loop
-loop-again c =
-    let z = c .before .before in
-    let a = z .before .args in
-    let l = z .loop in
-    let vertex : ℕ → ℕ = boundaryVertex (a .b .now) (a .ent .now) (a .a) (a .s) (a .len) in (
-      omega arith,
-      simp length-set (l .inv .1),
-      set-more (l .c) vertex (l .x) _ (omega (arith, l .inv .1, z .before .pre)) (l .inv .2) (c .boundary-vertex .ensures),
+returns : tie.Need-returns
+returns c =
+    let inside = c .before .before .before in
+    let left = inside .before .before .before in
+    let s = left .before .before .before in (
+      c .copy3 .ensures .size ∙ inside .copy2 .ensures .size ∙ left .copy .ensures .size ∙ s .pre .5,
+      three-copied (s .pre .1) (left .copy .ensures) (inside .copy2 .ensures) (c .copy3 .ensures),
     )
-
-returns : tie.Need-returns Inv-loop μ-loop
-returns c = let z = c .before in (z .loop .inv .1, λ x xl. z .loop .inv .2 x (omega arith))
 
 pub put-boundary-spec : {M : Type 1} → statement M
 put-boundary-spec =
     tie.close
     (tie.spec
-    Inv-loop
-    μ-loop
-    add-last
-    sub-last
-    loop-holds
-    boundary-vertex-requires
-    element-write-c
-    add-x
-    loop-less
-    loop-again
+    copy-requires
+    copy-requires-2
+    add-copy
+    add-copy-2
+    sub-copy
+    add-copy-3
+    copy-requires-3
     returns)
