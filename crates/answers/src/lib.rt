@@ -1,4 +1,6 @@
 // A refusal's number, and what the calls answer where that is more than `Answer`. What each case is in document 01's numbers is in specs/Told.
+#![tactic(auto)]
+
 ghost use Rattle.std.specs.Prelude.{◌≡◌};
 ghost use Rattle.rules.specs.Refusals.{number};
 
@@ -6,27 +8,27 @@ use rules::{Line, Place, Refusal};
 use tool::Move;
 
 // A call that writes: the number of bytes written.
-#[derive(Drop)]
+#[derive(Clone, Copy)]
 pub enum Written {
     Bytes(usize),
     Refused(Refusal, usize),
 }
 
 // A look-up: a point's place; a line with its bend, and where the bend lies, or a straight line; a cut line's number, or that there is none.
-#[derive(Drop)]
+#[derive(Clone, Copy)]
 pub enum PointSeen {
     At(Place),
     Refused(Refusal, usize),
 }
 
-#[derive(Drop)]
+#[derive(Clone, Copy)]
 pub enum LineSeen {
     Bent(Line, Place),
     Straight(Line),
     Refused(Refusal, usize),
 }
 
-#[derive(Drop)]
+#[derive(Clone, Copy)]
 pub enum CutSeen {
     Line(usize),
     Nothing,
@@ -34,20 +36,20 @@ pub enum CutSeen {
 }
 
 // A move of the cutter, and how many there are.
-#[derive(Drop)]
+#[derive(Clone, Copy)]
 pub enum Moved {
     Made(Move),
     Refused(Refusal, usize),
 }
 
-#[derive(Drop)]
+#[derive(Clone, Copy)]
 pub enum Counted {
     Moves(usize),
     Refused(Refusal, usize),
 }
 
 // All moves, written into two buffers: how many there are, or the buffer that is too short.
-#[derive(Drop)]
+#[derive(Clone, Copy)]
 pub enum Listed {
     Moves(usize),
     KindsShort,
@@ -56,7 +58,7 @@ pub enum Listed {
 }
 
 // An import, written into two buffers: how many bytes of the order file and of the list of vertices, or the buffer that is too short.
-#[derive(Drop)]
+#[derive(Clone, Copy)]
 pub enum Imported {
     Sizes(usize, usize),
     OrderShort,

@@ -1,4 +1,6 @@
 // A whole list of calls in one function: demand 3 of document 01 and wish 2 of document 02 as one claim about the program.
+#![tactic(auto)]
+
 ghost use Rattle.std.specs.Prelude.{◌≡◌};
 ghost use Rattle.store_tables.specs.Tables.{arrays_in};
 ghost use Rattle.store_links.specs.Opening.{no_counts};

@@ -1,4 +1,6 @@
 // A list of calls in words, and the two words of an answer. For `calls`.
+#![tactic(auto)]
+
 ghost use Rattle.std.specs.Prelude.{◌≡◌, ◌+◌, ◌<◌, length, set};
 ghost use Rattle.calls_words.specs.Lists.{calls_in, end_of, place_in, with_answer};
 

@@ -1,5 +1,7 @@
 // Runs the programs' work on the worked cases in data/, and writes for each its name, what comes out, and a line feed.
 // The names stand line by line on standard input, from the file `stdin`. By how its name begins a case is an order file to be drawn straight (`straight`), a straight drawing file to be read (`read`), a drawing file with bends to be read (`undraw`), a net in planar_code to be imported (`net`), one whose vertices are to be printed (`vertices`), or an order file to be drawn with bends.
+#![tactic(auto)]
+
 ghost use Rattle.std.specs.Prelude.{◌≤◌, length};
 
 use files::Outcome;

@@ -5,7 +5,7 @@ use Rattle.rules.specs.declared.Refusal.TheVariants.{BadTool, Unfinished, NoSuch
 use Rattle.rules.specs.Refusals.{Result, good, Told, gives, refused_with, told, ◌>>◌, refuse_if}
 use Rattle.rules.specs.Points.{Drawing as Plan, line_at}
 use Rattle.rules.specs.Moves.{Tool as WholeTool, Move as WholeMove, is_tool, lift, moves_of, all_moves, move_at}
-use Rattle.rules.specs.Dwelling.{has_pitch}
+use Rattle.rules.proofs.Dwelling.{has_pitch}
 use Rattle.store_links.specs.declared.Counts.{Counts}
 use Rattle.store_links.specs.Arrays.{Arrays}
 use Rattle.store_laws.specs.Adding.{Holds}

@@ -1,4 +1,6 @@
 // The cutter moves of a drawing: given one at a time by number, all at once, and how many there are.
+#![tactic(auto)]
+
 ghost use Rattle.std.specs.Prelude.{◌≡◌, true, ◌≤◌, length};
 ghost use Rattle.rules.specs.Refusals.{told};
 ghost use Rattle.rules.specs.Points.{Drawing as Plan};
@@ -22,7 +24,7 @@ use store_tables::{POINTS, Table};
 use tool::{Checked, Numbers, Tool};
 
 // The line that a move belongs to, or the number of lines where there is no such move; and how many moves stand before that line's.
-#[derive(Drop)]
+#[derive(Clone, Copy)]
 struct Found {
     line: usize,
     before: usize,

@@ -8,7 +8,7 @@ use Rattle.rules.specs.declared.Place.{Place}
 use Rattle.rules.specs.Points.{Drawing as Plan, place_of}
 use Rattle.rules.specs.Ports.{bend_place}
 use Rattle.rules.specs.Moves.{Tool as WholeTool, Move as WholeMove, line_moves, without_dwelling, moves_of, moves_over, repeated}
-use Rattle.rules.specs.Dwelling.{straight-bent}
+use Rattle.rules.proofs.Dwelling.{straight-bent}
 use Rattle.cutter_lines.specs.declared.Groove.{Groove}
 use Rattle.cutter_lines.specs.Grooves.{groove_moves, total}
 use Rattle.cutter_lines.specs.Laws.{total-count, total_most}

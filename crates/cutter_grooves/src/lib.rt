@@ -1,4 +1,6 @@
 // A line of the drawing in a lent table, as it is cut. For `cutter`: it asks for the table of a drawing, with its x settled.
+#![tactic(auto)]
+
 ghost use Rattle.std.specs.Prelude.{◌≡◌, ◌≤◌, ◌<◌};
 ghost use Rattle.rules.specs.Points.{Drawing as Plan, place_of, line_at};
 ghost use Rattle.store_laws.specs.Adding.{Holds};

@@ -6,7 +6,7 @@ use Rattle.rules.specs.declared.Style.TheVariants.{OneBend}
 use Rattle.rules.specs.declared.Place.{Place}
 use Rattle.rules.specs.Basics.{if◌then◌else◌}
 use Rattle.rules.specs.Moves.{Tool as WholeTool, Move as WholeMove, lift, line_moves, without_dwelling, repeated}
-use Rattle.rules.specs.Dwelling.{moves_each}
+use Rattle.rules.proofs.Dwelling.{moves_each}
 use Rattle.tool.specs.declared.Numbers.{Numbers}
 use Rattle.tool.specs.Checking.{tool_of}
 use Rattle.cutter_lines.specs.declared.Groove.{Groove}

@@ -9,7 +9,7 @@ use Rattle.rules.specs.declared.Kind.TheVariants.{Guide, Plain, Feeder}
 use Rattle.rules.specs.Basics.{if◌then◌else◌}
 use Rattle.rules.specs.Meeting.{same_place}
 use Rattle.rules.specs.Moves.{Tool as WholeTool, Move as WholeMove, lift, repeated}
-use Rattle.rules.specs.Dwelling.{bent-list, bent-count}
+use Rattle.rules.proofs.Dwelling.{bent-list, bent-count}
 use Rattle.tool.specs.declared.Numbers.{Numbers}
 use Rattle.tool.specs.Checking.{tool_of}
 use Rattle.cutter_lines.specs.declared.Groove.{Groove}

@@ -1,5 +1,7 @@
 // The moves of one line in f32, exactly: document 01's five each time that it is cut, less a cut to where the cutter is.
 // For the crates above: it asks for places on the grid and numbers in range, which are tested or proved there.
+#![tactic(auto)]
+
 ghost use Rattle.std.specs.Prelude.{◌≡◌, ◌+◌, ◌*◌, ◌≤◌, ◌<◌};
 ghost use Rattle.rules.specs.Basics.{if◌then◌else◌};
 ghost use Rattle.rules.specs.Meeting.{same_place};
@@ -12,7 +14,7 @@ use rules::{Kind, Place};
 use tool::{Move, Numbers};
 
 // A line as it is cut: its kind, and where its later point, its bend and its earlier point lie. A straight line is one whose bend lies at its earlier point.
-#[derive(Drop)]
+#[derive(Clone, Copy)]
 pub struct Groove {
     pub kind: Kind,
     pub later: Place,
@@ -55,6 +57,7 @@ fn five_move(which: usize, s: usize, g: Groove, t: Numbers) -> Move
 }
 
 // Two places are one.
+#[tactic(auto, unfolding(rules::specs::Meeting::same_place))]
 fn same_place(a: Place, b: Place) -> bool
     ensures { result ≡ same_place a b }
 {

@@ -1,4 +1,6 @@
 // Moves written into two lent buffers: a kind and two f32 a move. For `cutter`: it asks for room, which is tested there.
+#![tactic(auto)]
+
 ghost use Rattle.std.specs.Prelude.{◌≡◌, ◌+◌, ◌*◌, ◌≤◌, ◌<◌, length, set};
 ghost use Rattle.std.proofs.lemmas.List.Edits.{sets};
 ghost use Rattle.tool.specs.Checking.{tool_of, InRange};

@@ -1,4 +1,6 @@
 // The drawing program: an order file from standard input, its drawing file or the line of its refusal to standard output.
+#![tactic(auto)]
+
 use rules::Style;
 
 fn main() {

@@ -1,4 +1,6 @@
 // The drawing by value: opening, adding, look-ups. It wraps the core over a lent table and copies at entry and exit only.
+#![tactic(auto)]
+
 ghost use Rattle.std.specs.Prelude.{◌≡◌};
 ghost use Rattle.rules.specs.Refusals.{told};
 ghost use Rattle.rules.specs.Points.{Drawing as Plan};
@@ -15,27 +17,28 @@ use store_links::Counts;
 use store_tables::{END, POINTS, Table};
 
 // A drawing as the program keeps it: boundary links and gaps in one table (crate `store_links` says what each of its arrays holds).
-#[derive(Drop)]
+#[derive(Clone, Copy)]
 pub struct Drawing {
     pub counts: Counts,
     pub table: Table,
 }
 
 // A drawing with the x of every placed point, settled once for many look-ups.
-#[derive(Drop)]
+#[derive(Clone, Copy)]
 pub struct Placed {
     pub drawing: Drawing,
     pub x: [u16; POINTS],
 }
 
 // What a call answers, and the drawing that it returns or leaves.
-#[derive(Drop)]
+#[derive(Clone, Copy)]
 pub struct Done {
     pub answer: Answer,
     pub drawing: Drawing,
 }
 
 // A drawing of zeros, which goes with a refusal to open or to run a list of calls.
+#[tactic(auto, unfolding(crate::specs::Opens::blank))]
 pub fn no_drawing() -> Drawing
     ensures { result ≡ blank }
 {

@@ -10,8 +10,8 @@ use Rattle.rules.specs.Refusals.{good}
 use Rattle.rules.specs.Same.{compare_same}
 use Rattle.rules.specs.Points.{Drawing, m, W}
 use Rattle.rules.specs.Records.{written, read_record, several, read_end, from_start, drawing_head, point_place, line_shape, line_size, end_shape}
-use Rattle.rules.specs.Lengths.{length-bytes}
-use Rattle.rules.specs.RoundTrip.{record_back}
+use Rattle.rules.proofs.Lengths.{length-bytes}
+use Rattle.rules.proofs.RoundTrip.{record_back}
 use Rattle.rules.specs.DrawingFile.{highest, write_points, drawing_bytes, compare_bytes, judge_drawing, read_drawing}
 use Rattle.promise.specs.Next.{next}
 use Rattle.promise.specs.Accepted.{accepted}

@@ -11,7 +11,7 @@ use Rattle.rules.specs.declared.Bend.{Bend}
 use Rattle.rules.specs.Basics.{if◌then◌else◌, keep, snoc}
 use Rattle.rules.specs.Refusals.{good}
 use Rattle.rules.specs.Entries.{word_of}
-use Rattle.rules.specs.Lengths.{map_append}
+use Rattle.rules.proofs.Lengths.{map_append}
 use Rattle.rules.specs.Points.{Drawing}
 use Rattle.rules.specs.Adding.{add_entries, new_lines, points_of}
 use Rattle.rules.specs.OrderFile.{entries_of, start_with, kind_at}

@@ -20,12 +20,12 @@ use Rattle.rules.specs.Styles.{bent, line_numbers}
 use Rattle.rules.specs.Adding.{points_of, add_entries, new_lines, new_bend}
 use Rattle.rules.specs.Ports.{bend_place}
 use Rattle.rules.specs.Records.{Size, Shape, Found, written, read_record, several, line_shape}
-use Rattle.rules.specs.RoundTrip.{found, Fits, record_back}
+use Rattle.rules.proofs.RoundTrip.{found, Fits, record_back}
 use Rattle.rules.specs.OrderFile.{start_test, start_with}
 use Rattle.rules.specs.DrawingFile.{last_field, kind_from, line_words, write_lines, later_in, entry_in, group, behind, group_place, judge_rest, judge_lines}
 use Rattle.exchange.specs.Built.{Built, begun, added}
 use Rattle.exchange.specs.Entries.{lengthened, second_is, third_is}
-use Rattle.rules.specs.Lengths.{length-snoc}
+use Rattle.rules.proofs.Lengths.{length-snoc}
 use Rattle.rules.specs.Results.{same_value, bound, binds_to, tested, placed-good}
 
 -- ---- several records of one shape

@@ -14,13 +14,14 @@ use Rattle.rules.specs.Refusals.{good, placed, ◌>>=◌, refuse_if}
 use Rattle.rules.specs.Styles.{drawing_length}
 use Rattle.rules.specs.Points.{Drawing}
 use Rattle.rules.specs.Adding.{add_read, points_of}
-use Rattle.rules.specs.Readings.{entry_of, add_entries_lem}
+use Rattle.rules.specs.Readings.{entry_of}
+use Rattle.rules.proofs.Readings.{add_entries_lem}
 use Rattle.rules.specs.Records.{plain, counted, Cursor, Found, first, words_in, skip, words_at, rest_of, read_record, read_end, marked, from_start, order_head, scale_shape, point_entries, line_size, end_shape}
 use Rattle.rules.specs.OrderFile.{Scaled, given_scale, read_scale, entries_in, start_with, read_rest, read_points, read_order, longest_order, write_order}
 use Rattle.rules.specs.DrawingFile.{drawing_bytes, longest_drawing, write_drawing, draw_file, read_drawing, order_back}
 use Rattle.rules.specs.Bools.{in_range}
 use Rattle.rules.specs.Results.{same_value, bound, followed, tested, test_false, placed-good}
-use Rattle.rules.specs.Lengths.{length-points, length-words}
+use Rattle.rules.proofs.Lengths.{length-points, length-words}
 use Rattle.promise.specs.Lined.{length-lines}
 use Rattle.exchange.specs.Built.{Whole}
 use Rattle.exchange.specs.Entries.{lengthened}

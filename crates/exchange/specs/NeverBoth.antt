@@ -8,7 +8,7 @@ use Rattle.rules.specs.declared.Refusal.{Refusal}
 use Rattle.rules.specs.declared.Refusal.TheVariants.{FileEnds, WrongMark, OutOfRange, OtherStart, FewEntries, NotPlaced, Covered, NoRun, NotWhole, ExtraBytes, OtherDrawing, BothMarks, Finished, Unfinished, NoReach}
 use Rattle.rules.specs.Basics.{between, same, elem}
 use Rattle.rules.specs.Refusals.{number, Result, good, refused, ◌>>=◌, ◌>>◌, refuse_if, placed}
-use Rattle.rules.specs.Readings.{points-given, tests_of, judge_of, adding}
+use Rattle.rules.proofs.Readings.{points-given, tests_of, judge_of, adding}
 use Rattle.rules.specs.Styles.{reach_passes}
 use Rattle.rules.specs.Points.{Drawing, m}
 use Rattle.rules.specs.Adding.{l_of, r_of, inner, row_height, points_of, spread, new_x, new_y, all_reach, entry_tests, run_tests, call_tests, judge, placed_new, add_entries}

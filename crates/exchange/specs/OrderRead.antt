@@ -11,14 +11,15 @@ use Rattle.rules.specs.Basics.{if◌then◌else◌, between, snoc, any_of}
 use Rattle.rules.specs.Same.{same_is}
 use Rattle.rules.specs.Refusals.{Result, good, ◌>>=◌, ◌>>◌, refuse_if, placed}
 use Rattle.rules.specs.Entries.{read_entry, word_of, is_both, points_read, given_in}
-use Rattle.rules.specs.Readings.{entry_of, words-given, added-given, add_entries_lem}
+use Rattle.rules.specs.Readings.{entry_of}
+use Rattle.rules.proofs.Readings.{words-given, added-given, add_entries_lem}
 use Rattle.rules.specs.Readings as Readings
 use Rattle.rules.specs.Points.{Drawing}
 use Rattle.rules.specs.Adding.{add_read, points_of}
 use Rattle.rules.specs.Records.{Cursor, Found, first, read_record, read_end, marked, from_start, written, order_head, scale_shape, point_entries, end_shape}
 use Rattle.rules.specs.OrderFile.{Scaled, given_scale, read_scale, order_scale, start_test, record_tests, start_with, entries_in, read_rest, read_points, read_order, write_order}
 use Rattle.rules.specs.Bools.{neither, in_range}
-use Rattle.rules.specs.RoundTrip.{word_back}
+use Rattle.rules.proofs.RoundTrip.{word_back}
 use Rattle.exchange.specs.Built.{Built, begun, added, Whole, Bytes}
 use Rattle.rules.specs.Results.{same_value, bound, followed, tested, test_false, placed-good}
 use Rattle.exchange.specs.Entries.{every, listed, whole_so}

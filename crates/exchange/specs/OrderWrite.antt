@@ -10,12 +10,12 @@ use Rattle.rules.specs.Basics.{between}
 use Rattle.rules.specs.Same.{same_self}
 use Rattle.rules.specs.Refusals.{good, placed}
 use Rattle.rules.specs.Entries.{read_entry, word_of}
-use Rattle.rules.specs.Readings.{given_back, given_one, points-given}
+use Rattle.rules.proofs.Readings.{given_back, given_one, points-given}
 use Rattle.rules.specs.Points.{Drawing}
 use Rattle.rules.specs.Adding.{add_read, points_of}
 use Rattle.rules.specs.Records.{read_record, written, order_head, scale_shape, point_entries, end_shape}
 use Rattle.rules.specs.OrderFile.{record_tests, read_scale, order_scale, order_points, entries_of, read_rest, read_points, read_order, write_order}
-use Rattle.rules.specs.RoundTrip.{record_back}
+use Rattle.rules.proofs.RoundTrip.{record_back}
 use Rattle.exchange.specs.Built.{Built, Whole}
 use Rattle.rules.specs.Results.{binds, goes, then_to}
 use Rattle.exchange.specs.Entries.{entries_at, entries-words, every, listed}

@@ -10,8 +10,8 @@ use Rattle.rules.specs.Entries.{point_limit, read_entry, word_of}
 use Rattle.rules.specs.Points.{Drawing}
 use Rattle.rules.specs.Adding.{add_entries, points_of}
 use Rattle.rules.specs.OrderFile.{start_with, kind_at}
-use Rattle.rules.specs.RoundTrip.{entry_back}
-use Rattle.rules.specs.Lengths.{length-points}
+use Rattle.rules.proofs.RoundTrip.{entry_back}
+use Rattle.rules.proofs.Lengths.{length-points}
 use Rattle.promise.specs.Accepted.{accepted}
 use Rattle.promise.specs.Bounds.{Standing, standing-start, standing-added}
 use Rattle.exchange.specs.Built.{Built, begun, added}

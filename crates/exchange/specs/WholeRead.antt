@@ -9,7 +9,7 @@ use Rattle.rules.specs.Basics.{if◌then◌else◌, between, snoc}
 use Rattle.rules.specs.Refusals.{good, placed, ◌>>=◌}
 use Rattle.rules.specs.Points.{Drawing}
 use Rattle.rules.specs.Adding.{add_read}
-use Rattle.rules.specs.Readings.{add_entries_lem}
+use Rattle.rules.proofs.Readings.{add_entries_lem}
 use Rattle.rules.specs.Records.{Cursor, first, read_record, read_end, marked, from_start, order_head, scale_shape, point_entries}
 use Rattle.rules.specs.OrderFile.{Scaled, given_scale, read_scale, entries_in, start_with, read_rest, read_points, read_order}
 use Rattle.exchange.specs.Built.{Built, begun, added, Whole}

@@ -1,4 +1,6 @@
 // The programs' reading and writing. What they print is `printing`'s, with its proof; only that `read` and `write` do what C says of them is outside it.
+#![tactic(auto)]
+
 ghost use Rattle.std.specs.Prelude.{◌≤◌, length};
 
 use libc::{STDERR_FILENO, STDOUT_FILENO};
@@ -11,7 +13,7 @@ pub const ORDER_INPUT: usize = 32768;
 const DRAWING_INPUT: usize = 65536;
 
 // What came of a program's work: all of its output was written, or not all of it, or the input couldn't be read.
-#[derive(Drop)]
+#[derive(Clone, Copy)]
 pub enum Outcome {
     Written,
     NotWritten,
@@ -19,7 +21,7 @@ pub enum Outcome {
 }
 
 // How many bytes stand at the start of a buffer, and whether a read failed behind them. This and what makes it are for `files_moves` too.
-#[derive(Drop)]
+#[derive(Clone, Copy)]
 pub struct Input {
     pub bytes: usize,
     pub failed: bool,

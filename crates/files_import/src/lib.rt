@@ -1,4 +1,6 @@
 // The import programs' reading and writing. What they print is `printing_import`'s, with its proof; only that `read` and `write` do what C says of them is outside it.
+#![tactic(auto)]
+
 use files::{ORDER_INPUT, Outcome};
 use planar_rules::{LONGEST_IMPORT, MOST_VERTICES};
 

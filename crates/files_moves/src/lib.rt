@@ -1,4 +1,6 @@
 // The moves programs' reading and writing. What they print is `printing_moves`', with its proof; only that arguments, `read` and `write` are what C says of them is outside it.
+#![tactic(auto)]
+
 ghost use Rattle.std.specs.Prelude.{◌≡◌, ◌≤◌, length};
 ghost use Rattle.rules.specs.Output.{judged_bytes};
 
@@ -17,6 +19,7 @@ const PAGE: usize = 983104;
 const WORD: usize = 16;
 
 // The page begins with what is to be printed of the order file read, with the tool of the program's arguments: pitch, depth and clearance. Returns how many bytes that is.
+#[tactic(auto, unfolding(planar_sphere::specs::Order::start))]
 fn fill(style: Style, order: &[u8], n: usize, page: &mut [u8]) -> usize
     requires { (length order.now ≡ judged_bytes) × (n ≤ length order.now) × (983104 ≤ length page.old) }
     ensures { result ≤ length page.new }

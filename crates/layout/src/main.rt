@@ -1,5 +1,7 @@
 // Times the layout: runs one list of calls many times, and prints how many points were placed.
 // Standard input holds 16-bit numbers, low byte first: n, the number of rounds, then the calls, each a count and its entries.
+#![tactic(auto)]
+
 ghost use Rattle.std.specs.Prelude.{◌+◌, ◌<◌, ◌≤◌, length};
 
 use drawing::Drawing;

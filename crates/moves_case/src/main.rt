@@ -1,4 +1,6 @@
 // Prints the cutter moves of document 01's K4 (n = 5, add 1,3, then 1,4,3,2), one line a move, in eighths of a millimetre: drawn by calls with one tool, and from its order file at scale 8 with another. Then those of request 1's worked case of four points, with a feeder and a guide, those of two of request 3's, with bends at points and with guides only, and those of request 2's, the first net drawn straight by calls.
+#![tactic(auto)]
+
 ghost use Rattle.drawing.specs.Places.{IsPlaced};
 
 use answers::{Counted, Moved};

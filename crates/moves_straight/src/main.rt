@@ -1,4 +1,6 @@
 // The moves program of straight drawings.
+#![tactic(auto)]
+
 use rules::Style;
 
 fn main() {

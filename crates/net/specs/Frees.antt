@@ -50,6 +50,6 @@ module _ {g g' : Net} {l r : ℕ} (h : Points OneBend g) (n : Lines OneBend g) (
         cover = λ i j e f el fl ek fk. cover' i j e f b (mid h n a i e (a.line e el) ek) (mid h n a j f (a.line f fl) fk);
         some = (stays h a 0 b.some).0;
         base = λ e el. base' e b (a.line e el);
-        ground_lem = let o = stays h a 0 b.some in (o.2 ∙ b.ground.0, o.3 ∙ b.ground.1);
+        grounded = let o = stays h a 0 b.some in (o.2 ∙ b.grounded.0, o.3 ∙ b.grounded.1);
         first = λ e el. first' e b (a.line e el);
       }

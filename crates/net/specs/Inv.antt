@@ -74,7 +74,7 @@ pub record Frees (g : Net) : Type 0 where
   pub cover : (i j e f : ℕ) → e < g.L → f < g.L → g.kind e ≡ middle i → g.kind f ≡ middle j → g.u e ≡ g.u f → e ≡ f
   pub some : 0 < g.L
   pub base : (e : ℕ) → e < g.L → g.kind e ≡ flat → e ≡ 0
-  pub ground_lem : (g.u 0 ≡ 0) × (g.v 0 ≡ 1)
+  pub grounded : (g.u 0 ≡ 0) × (g.v 0 ≡ 1)
   pub first : (e : ℕ) → e < g.L → 0 < e → (g.v e ≢ g.u 0) × (g.v e ≢ g.v 0)
 
 -- 5, 8 (the count) and 9

@@ -99,7 +99,7 @@ module _ (g : Net) where
         late = λ s i j e f el fl ek fk q. omega (arith, placed g.kind s i e el ek, placed g.kind s j f fl fk);
         cover = λ i j e f el fl ek fk q. absurd (no_middle g.kind i e el ek);
         some = omega arith;
-        ground_lem = (refl, refl);
+        grounded = (refl, refl);
         base = base g.kind;
         first = three _ (omega arith) (omega arith) (omega arith);
       }

@@ -96,8 +96,8 @@ ends g e start = pt g (g.u e)
 ends g e bend = pt g (g.u e)
 ends g e end = pt g (g.v e)
 
-spot-ends : {g : Net} (e : ℕ) → g.kind e ≡ flat → ends g e ≡ spot g e
-spot-ends {g} e k = fun_ext go
+spot-ends : (g : Net) (e : ℕ) → g.kind e ≡ flat → ends g e ≡ spot g e
+spot-ends g e k = fun_ext go
   where
     go : (i : Spot) → ends g e i ≡ spot g e i
     go start = refl
@@ -119,7 +119,7 @@ module _ {g : Net} (n : Core Straight g) where
 
   pub disjoint : EndsApart g
   disjoint e f el fl n₁ n₂ n₃ n₄ =
-      subst₂ Missed (spot-ends e (n.lines.fits e el).0) (spot-ends f (n.lines.fits f fl).0)
+      subst₂ Missed (spot-ends g e (n.lines.fits e el).0) (spot-ends g f (n.lines.fits f fl).0)
       (go
       (parted (tilt N)
       (wins N (omega arith) (omega arith) (t f (g.u e) fl (o e el).0 n₁ n₂)) (wins N (omega arith) (omega arith) (t f (g.v e) fl (o e el).1 n₃ n₄))
@@ -185,7 +185,7 @@ module _ {g : Net} (n : Core Straight g) where
 
   pub shared : EndShared g
   shared z e f el fl d b c =
-      subst₂ (OnlyHalf (pt g z)) (spot-ends e (n.lines.fits e el).0) (spot-ends f (n.lines.fits f fl).0) (go (whole z e f el fl d b c))
+      subst₂ (OnlyHalf (pt g z)) (spot-ends g e (n.lines.fits e el).0) (spot-ends g f (n.lines.fits f fl).0) (go (whole z e f el fl d b c))
     where
       go : OnlyAt (pt g z) (pt g (g.u e)) (pt g (g.v e)) (pt g (g.u f)) (pt g (g.v f)) → OnlyHalf (pt g z) (ends g e) (ends g f)
       go h two two = h

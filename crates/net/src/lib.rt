@@ -1,1 +1,2 @@
 // No running code here: specs/ has the invariant that adding a point keeps, over abstract nets.
+#![tactic(auto)]

@@ -1,4 +1,6 @@
 // Order files into drawing files and back, in buffers that the caller lends; and both files of a drawing, and the drawing of an order file.
+#![tactic(auto)]
+
 ghost use Rattle.std.specs.Prelude.{◌≡◌};
 ghost use Rattle.rules.specs.Refusals.{good, answer};
 ghost use Rattle.rules.specs.Points.{Drawing as Plan};

@@ -1,5 +1,7 @@
 // What is asked of the drawing in a lent table that goes with an accepting answer: its file, a move, all moves, a point, a line, a cut line; or that answer's refusal.
 // For `panel_c`: it asks that an accepting answer has its drawing.
+#![tactic(auto)]
+
 ghost use Rattle.std.specs.Prelude.{◌≡◌};
 ghost use Rattle.rules.specs.declared.Answer.TheVariants.{Accepted};
 ghost use Rattle.drawing.specs.View.{Came};
@@ -16,7 +18,7 @@ use store_tables::Table;
 use tool::Tool;
 
 // A drawing file as it was written or refused, and the buffer that 24 is of.
-#[derive(Drop)]
+#[derive(Clone, Copy)]
 pub struct File {
     pub written: Written,
     pub buffer: u64,

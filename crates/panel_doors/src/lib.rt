@@ -1,5 +1,7 @@
 // What C and Rust call, for either style: for `panel_c`, which gives each call its style and its name. No `requires`.
 // Each call puts three words of a refusal into `refusal`: its number, its place, and at 24 which buffer was short, 1 the output (of moves: the kinds), 2 the answers, 3 the numbers of moves or 4 the list of vertices; all 0 for none.
+#![tactic(auto)]
+
 ghost use Rattle.rules.specs.DrawingFile.{draw_file, order_back};
 ghost use Rattle.panel_words.specs.Words.{output_buffer};
 ghost use Rattle.panel_doors.specs.Exported.{Exported, CallsExported};

@@ -1,5 +1,7 @@
 // What C is told of an answer: a number, the words of the answer in the caller's array, and three words of a refusal, 0, 0, 0 for none.
 // A refusal is the number 0 and leaves the array. For `panel_c`, which has the answers.
+#![tactic(auto)]
+
 ghost use Rattle.std.specs.Prelude.{◌≡◌};
 ghost use Rattle.panel_told.specs.Telling.{code_of, refusal_of, Tells};
 ghost use Rattle.panel_told.specs.Answers.{file_given, move_given, list_given, short_for, import_given, import_short, point_given, line_words, line_given, ends_words, ends_given, cut_given};

@@ -1,4 +1,6 @@
 // Parts of what C is told: the three words of a refusal, and a number, a bend and a mark as words. For `panel_told`.
+#![tactic(auto)]
+
 ghost use Rattle.std.specs.Prelude.{◌≡◌};
 ghost use Rattle.panel_words.specs.Words.{short_of, refusal_words, bend_kind, port_of};
 

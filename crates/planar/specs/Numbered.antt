@@ -5,7 +5,7 @@ use Rattle.std.proofs.Common.{sym, ◌∙◌, subst, arith, add-one, add-zero, g
 use Rattle.rules.specs.Basics.{index_of}
 use Rattle.rules.specs.Entries.{word_of}
 use Rattle.rules.specs.Records.{bytes_of, order_mark, entries_mark, end_mark}
-use Rattle.rules.specs.Lengths.{bytes_append, length-bytes}
+use Rattle.rules.proofs.Lengths.{bytes_append, length-bytes}
 use Rattle.planar_rules.specs.PlanarCode.{Flat, Point, points, vertices, point_of, plain, entry_words, records, order_file, vertex_list, first, second}
 use Rattle.planar_order.specs.Numbering.{AllLines, more as another}
 use Rattle.planar_order.specs.Theorem.{Ordered, order-length, list_length}

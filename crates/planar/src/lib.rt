@@ -1,5 +1,7 @@
 // Wish 4: a net in planar_code becomes an order file, with the list of its vertices by point.
 // `import` asks nothing; the functions below it work on arrays that it lends, all 0 at first.
+#![tactic(auto)]
+
 ghost use Rattle.std.specs.Prelude.{◌≡◌, true, List, ℕ, ◌+◌, ◌*◌, ◌≤◌, length};
 ghost use Rattle.rules.specs.declared.Style.{Style};
 ghost use Rattle.rules.specs.Refusals.{good};
@@ -22,7 +24,7 @@ use planar_writing::put_both;
 use rules::Refusal;
 
 // A net that is taken, with n vertices and d places, or the refusal of its file.
-#[derive(Drop)]
+#[derive(Clone, Copy)]
 pub enum Net {
     Taken(u8, usize),
     Refused(Refusal),

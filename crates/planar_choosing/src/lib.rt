@@ -1,6 +1,8 @@
 // Which vertex comes off the boundary next: the lowest one that is joined to no boundary vertex but the two beside it.
 // For `planar_numbering`: the functions ask for a boundary of at most 255 different vertices, and for lists that lie within
 // the array of neighbours.
+#![tactic(auto)]
+
 ghost use Rattle.std.specs.Prelude.{◌≡◌, ℕ, ◌+◌, ◌-◌, ◌<◌, ◌≤◌, length, get_or};
 ghost use Rattle.planar_rules.specs.PlanarCode.{lowest};
 ghost use Rattle.planar_choosing.specs.Free.{no_chord?, free_in};
@@ -10,7 +12,7 @@ use planar_judging::{list_end, list_start, wide};
 use planar_rules::{PLACE_ROOM, START_ROOM, VERTEX_ROOM};
 
 // A vertex, and one more than its index on the boundary.
-#[derive(Drop)]
+#[derive(Clone, Copy)]
 pub struct Choice {
     pub v: u8,
     pub q: usize,
@@ -38,6 +40,7 @@ fn no_chord(q: usize, t: usize) -> bool
 }
 
 // Whether none of the lines at len places from lo on, which are those of the boundary's t-th vertex, is a chord.
+#[tactic(auto, unfolding(crate::specs::Free::free_in))]
 fn free_at(nbr: &[u8; PLACE_ROOM], pos: &[u8; VERTEX_ROOM], lo: usize, len: usize, t: usize) -> bool
     requires { (lo + len ≤ 1536) × (t < 256) }
     ensures { result ≡ free_in nbr.now pos.now lo len t }

@@ -5,7 +5,7 @@ use Rattle.std.proofs.lemmas.List.{length-map}
 use Rattle.rules.specs.declared.Style.{Style}
 use Rattle.rules.specs.declared.Entry.{Entry}
 use Rattle.rules.specs.Basics.{snoc}
-use Rattle.rules.specs.Lengths.{map_append, length-snoc}
+use Rattle.rules.proofs.Lengths.{map_append, length-snoc}
 use Rattle.rules.specs.Points.{Drawing, m}
 use Rattle.rules.specs.Adding.{points_of}
 use Rattle.promise.specs.Next.{IsRun, next}

@@ -1,6 +1,8 @@
 // Whether a net is taken: what 15 asks, over the net in arrays.
 // `taken` and `place_of` ask for what `planar_reading` gives of a file that is well formed, with no more neighbours than
 // the arrays have room for.
+#![tactic(auto)]
+
 ghost use Rattle.std.specs.Prelude.{◌≡◌, true, ℕ, ◌+◌, ◌<◌, ◌≤◌, length, get_or, eqb};
 ghost use Rattle.planar_rules.specs.PlanarCode.{place, not_self?, not_twice?, faces?, joined?, taken?, all};
 ghost use Rattle.planar_judging.specs.Arrays.{flat_of, Kept, Backs, Both, after_in, Relabelled};

@@ -1,5 +1,7 @@
 // The numbering: the points of a net that is taken, with their vertices and entries, counted down from point n.
 // For the import: `number` asks for a net that 15 doesn't refuse, and arrays that have room for 255 points.
+#![tactic(auto)]
+
 ghost use Rattle.std.specs.Prelude.{◌≡◌, ℕ, ◌+◌, ◌-◌, ◌<◌, ◌≤◌, length, get_or, []};
 ghost use Rattle.planar_rules.specs.PlanarCode.{place, run, gather};
 ghost use Rattle.planar_judging.specs.Arrays.{flat_of, Kept};
@@ -15,6 +17,7 @@ use planar_rules::{ENTRY_ROOM, PLACE_ROOM, START_ROOM, VERTEX_ROOM};
 
 // Puts the neighbours from place d0 on, clockwise, up to left, into ent from s down: they stand there from left to right.
 // Returns where they begin.
+#[tactic(auto, unfolding(planar_rules::specs::PlanarCode::after))]
 fn gather_run(
     n: u8,
     d: usize,
@@ -43,6 +46,7 @@ fn gather_run(
 }
 
 // Puts the entries of a point there: the neighbours of its vertex v from right, clockwise, to left.
+#[tactic(auto, unfolding(planar_rules::specs::PlanarCode::run))]
 fn gather_entries(
     n: u8,
     d: usize,

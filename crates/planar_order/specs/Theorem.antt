@@ -7,7 +7,7 @@ use Rattle.rules.specs.Basics.{if◌then◌else◌, index_of}
 use Rattle.rules.specs.Indices.{index_at, index_le}
 use Rattle.rules.specs.Entries.{word_of}
 use Rattle.rules.specs.Records.{written, point_entries, end_shape, entries_mark}
-use Rattle.rules.specs.Lengths.{length-bytes}
+use Rattle.rules.proofs.Lengths.{length-bytes}
 use Rattle.planar_rules.specs.PlanarCode.{Flat, net_of, formed?, taken?, Point, comes_off, number, first, second, top, top_point, points, vertices, point_of, plain, entry_words, records, order_file, vertex_list}
 use Rattle.planar_sphere.specs.Count.{bool, clash, count, count-max, put, put_else, put-case, count-put, count_same}
 use Rattle.planar_sphere.specs.Map.{Net}

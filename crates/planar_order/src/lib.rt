@@ -1,1 +1,2 @@
 // No running code here: specs/ proves that a net which is taken always yields an order.
+#![tactic(auto)]

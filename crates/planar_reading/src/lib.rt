@@ -1,6 +1,8 @@
 // A file in planar_code: whether it is well formed, and its net in arrays.
 // `formed` and `places` take any bytes; those that fill an array ask for a file whose lists are well formed, with no more
 // neighbours than the array has room for.
+#![tactic(auto)]
+
 ghost use Rattle.std.specs.Prelude.{◌≡◌, true, ◌∷◌, ◌<◌, ◌≤◌, length, get_or};
 ghost use Rattle.planar_rules.specs.PlanarCode.{begins?, body, lists?, formed?, neighbours, owners, ends};
 ghost use Rattle.planar_reading.specs.Laws.{Filled};

@@ -1,4 +1,5 @@
 // The import's numbers, for all its crates. No running code here: specs/ has wish 4 as definitions, in its order, and its worked cases.
+#![tactic(auto)]
 
 // "one byte n from 4 to 255"
 pub const FEWEST_VERTICES: u8 = 4;

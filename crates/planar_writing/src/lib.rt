@@ -1,5 +1,7 @@
 // The import's two outputs, written from its arrays: the order file, and the list of vertices by point.
 // For `planar`, which has the numbering and has tested the room: the functions ask for both.
+#![tactic(auto)]
+
 ghost use Rattle.std.specs.Prelude.{◌≡◌, map, ℕ, suc, ◌+◌, ◌*◌, ◌<◌, ◌≤◌, length, get_or, take, drop};
 ghost use Rattle.rules.specs.Records.{bytes_of};
 ghost use Rattle.words.specs.Writing.{Pasted, Stored};

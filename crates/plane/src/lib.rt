@@ -1,5 +1,7 @@
 // When two pieces of straight line meet, decided by the signs of whole-number cross products and, on one line, by overlap.
 // The definitions are those of rules (Meeting); specs/ has the laws by which pieces are told apart, and `Turning` for the signs.
+#![tactic(auto)]
+
 ghost use Rattle.std.specs.Prelude.{◌≡◌, ◌&&◌, ◌||◌, ◌+◌, ◌*◌, min, max, pos};
 ghost use Rattle.rules.specs.Meeting.{in_line, one_side, one_line, overlap, meet, same_place, only_if, meet_only_at};
 ghost use Rattle.plane.specs.Turning.{above_zero, below_zero, Turns};
@@ -15,6 +17,7 @@ fn products(a: u16, b: u16, c: u16, d: u16, e: u16, f: u16) -> i64
 
 // The cross product of q - p and r - p: above zero where r lies to the left of the line from p to q,
 // zero where it lies on it (or p is q), below zero where it lies to the right.
+#[tactic(auto, unfolding(rules::specs::Meeting::cross_minus, rules::specs::Meeting::cross_plus))]
 pub fn orientation(p: Place, q: Place, r: Place) -> i64
     ensures { Turns p q r result }
 {
@@ -36,6 +39,7 @@ fn both_in_line(p: Place, q: Place, r: Place, s: Place) -> bool
 }
 
 // Whether all four places lie on one straight line.
+#[tactic(auto, unfolding(rules::specs::Meeting::one_line))]
 fn on_one_line(p: Place, q: Place, r: Place, s: Place) -> bool
     ensures { result ≡ one_line p q r s }
 {
@@ -56,6 +60,7 @@ fn same_sign(a: i64, b: i64) -> bool
 }
 
 // Whether r and s lie strictly on one side of the line through p and q.
+#[tactic(auto, unfolding(rules::specs::Meeting::one_side))]
 fn on_one_side(p: Place, q: Place, r: Place, s: Place) -> bool
     ensures { result ≡ one_side p q r s }
 {
@@ -77,6 +82,7 @@ fn larger(a: u16, b: u16) -> u16
 }
 
 // Whether the numbers from a to b and those from c to d overlap.
+#[tactic(auto, unfolding(rules::specs::Meeting::overlap))]
 fn overlaps(a: u16, b: u16, c: u16, d: u16) -> bool
     ensures { result ≡ overlap a b c d }
 {
@@ -84,6 +90,7 @@ fn overlaps(a: u16, b: u16, c: u16, d: u16) -> bool
 }
 
 // Whether the piece from p to q and the piece from r to s have a point in common.
+#[tactic(auto, unfolding(rules::specs::Meeting::meet))]
 pub fn meets(p: Place, q: Place, r: Place, s: Place) -> bool
     ensures { result ≡ meet p q r s }
 {
@@ -95,6 +102,7 @@ pub fn meets(p: Place, q: Place, r: Place, s: Place) -> bool
 }
 
 // Whether two places are the same.
+#[tactic(auto, unfolding(rules::specs::Meeting::same_place))]
 fn same_place(p: Place, q: Place) -> bool
     ensures { result ≡ same_place p q }
 {
@@ -102,6 +110,7 @@ fn same_place(p: Place, q: Place) -> bool
 }
 
 // Whether p, if it lies on the piece from r to s, is z.
+#[tactic(auto, unfolding(rules::specs::Meeting::only_if))]
 fn only_if(z: Place, p: Place, r: Place, s: Place) -> bool
     ensures { result ≡ only_if z p r s }
 {
@@ -116,6 +125,7 @@ fn ends_only(z: Place, p: Place, q: Place, r: Place, s: Place) -> bool
 }
 
 // Whether the piece from p to q and the piece from r to s have no point in common but z.
+#[tactic(auto, unfolding(rules::specs::Meeting::meet_only_at))]
 pub fn meets_only_at(z: Place, p: Place, q: Place, r: Place, s: Place) -> bool
     ensures { result ≡ meet_only_at z p q r s }
 {

@@ -1,5 +1,7 @@
 // What the programs print, in either style: from the bytes read to the bytes to write, proved equal to `Output.program` and `Output.back_program`.
 // The functions ask for buffers of document 01's sizes, so that 24 never happens; `files` has them.
+#![tactic(auto)]
+
 ghost use Rattle.std.specs.Prelude.{◌≡◌, ℕ, ◌≤◌, ◌<◌, List, length};
 ghost use Rattle.rules.specs.Refusals.{Result};
 ghost use Rattle.rules.specs.OrderFile.{longest_order};

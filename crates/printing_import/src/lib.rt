@@ -1,5 +1,7 @@
 // What the import programs print: from the bytes read to the bytes to write, proved equal to `Programs.import_program` and `Programs.vertices_program`.
 // The functions ask for buffers for every net that is taken, so that 24 never happens; `files_import` has them.
+#![tactic(auto)]
+
 ghost use Rattle.std.specs.Prelude.{◌≡◌, ℕ, ◌+◌, ◌*◌, ◌≤◌, List, length, take};
 ghost use Rattle.rules.specs.Refusals.{Result};
 ghost use Rattle.rules.specs.Output.{judged_bytes};

@@ -5,7 +5,8 @@ use Rattle.std.proofs.Math.Nat.{pow-succ', pow-le-pow_right}
 use Rattle.io.specs.Digits.{hex_digit_ascii, IsDigitCount}
 use Rattle.io.specs.Digits.{last_digits as kitDigits}
 use Rattle.rules.specs.Basics.{snoc}
-use Rattle.rules.specs.Decimal.{digit, digits, digits_one, digits_more}
+use Rattle.rules.specs.Decimal.{digit, digits}
+use Rattle.rules.proofs.Decimal.{digits_one, digits_more}
 use Rattle.printing_line.specs.Putting.{most_digits}
 
 -- the last digit

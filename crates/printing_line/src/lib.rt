@@ -1,4 +1,6 @@
 // Texts, numbers and the line of a refusal, put into a page. For `printing` and `printing_move`: the functions ask for room.
+#![tactic(auto)]
+
 ghost use Rattle.std.specs.Prelude.{◌+◌, ◌≤◌, length};
 ghost use Rattle.rules.specs.Refusals.{number};
 ghost use Rattle.rules.specs.Decimal.{digits};

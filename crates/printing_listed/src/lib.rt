@@ -1,4 +1,6 @@
 // What is printed of moves that were listed in two buffers: their lines, or the line of the refusal. For `printing_moves`: it asks for room.
+#![tactic(auto)]
+
 ghost use Rattle.std.specs.Prelude.{List, ◌+◌, ◌*◌, ◌≤◌, length};
 ghost use Rattle.rules.specs.Refusals.{Result};
 ghost use Rattle.rules.specs.Moves.{Move};

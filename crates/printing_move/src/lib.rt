@@ -1,4 +1,6 @@
 // The cutter's moves as lines in millimetres, put into a page. For `printing_moves`: the functions ask for room.
+#![tactic(auto)]
+
 ghost use Rattle.std.specs.Prelude.{◌≡◌, ◌+◌, ◌*◌, ◌≤◌, ◌<◌, List, length};
 ghost use Rattle.rules.specs.Moves.{Move};
 ghost use Rattle.rules.specs.MoveLines.{fraction, millimetres, move_lines};
@@ -35,6 +37,7 @@ fn put_fraction(page: &mut [u8], at: usize, r: u64) -> usize
 }
 
 // Puts n eighths of a millimetre there, in decimal. Returns the place behind them.
+#[tactic(auto, unfolding(rules::specs::MoveLines::millimetres))]
 fn put_millimetres(page: &mut [u8], at: usize, n: u64) -> usize
     requires { (n < limit) × (at + number_room ≤ length page.old) }
     ensures exact { Put page.old at (millimetres n) page.new result }

@@ -1,5 +1,7 @@
 // What the moves programs print, in either style: from the bytes and words read to the bytes to write, proved equal to `MoveLines.moves_program`.
 // The functions ask for buffers for the moves of every drawing, so that 24 never happens; `files_moves` has them.
+#![tactic(auto)]
+
 ghost use Rattle.std.specs.Prelude.{◌≡◌, ℕ, ◌≤◌, List, length};
 ghost use Rattle.rules.specs.MoveLines.{words_tool, moves_program};
 ghost use Rattle.rules.specs.Output.{judged_bytes};

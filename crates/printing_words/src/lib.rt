@@ -1,4 +1,6 @@
 // The tool from a program's three arguments: words of decimal digits. For `printing_moves`.
+#![tactic(auto)]
+
 ghost use Rattle.std.specs.Prelude.{◌≡◌, true, ◌+◌, ◌-◌, ◌*◌, ◌≤◌, ◌<◌, length};
 ghost use Rattle.rules.specs.Decimal.{is_digit};
 ghost use Rattle.rules.specs.MoveLines.{word_number, words_tool};

@@ -13,9 +13,10 @@ use Rattle.rules.specs.declared.Refusal.TheVariants.{Finished, FewEntries, NotPl
 use Rattle.rules.specs.Basics.{elem}
 use Rattle.rules.specs.Refusals.{Result, good, refused, refuse_if}
 use Rattle.rules.specs.Results.{never-good, same_value, followed, both_pass, test_false, tested, then_to, goes_to}
-use Rattle.rules.specs.Lengths.{length-points}
+use Rattle.rules.proofs.Lengths.{length-points}
 use Rattle.rules.specs.Entries.{points_read}
-use Rattle.rules.specs.Readings.{entry_of, points-given, tests_of, judge_of, adding, add_entries_lem}
+use Rattle.rules.specs.Readings.{entry_of}
+use Rattle.rules.proofs.Readings.{points-given, tests_of, judge_of, adding, add_entries_lem}
 use Rattle.rules.specs.Styles.{reach_passes}
 use Rattle.rules.specs.Points.{Drawing, w, m}
 use Rattle.rules.specs.Adding.{l_of, r_of, inner, row_height, spread, new_x, new_y, all_reach, points_of, entry_tests, run_tests, call_tests, judge, placed_new, add_entries, add}

@@ -112,14 +112,14 @@ module _ (d : Drawing) (s : Bent d) where
   first_line_lem : FirstLine d
   first_line_lem =
       let some = s.inv.frees.some in
-      let g : (pred (line_at d 0).earlier ≡ 0) × (pred (line_at d 0).later ≡ 1) = s.inv.frees.ground in
+      let g : (pred (line_at d 0).earlier ≡ 0) × (pred (line_at d 0).later ≡ 1) = s.inv.frees.grounded in
       let n = s.sound.ended.ends 0 some in
       (some, omega (arith, g.1, n.1), omega (arith, g.0, n.0))
 
   -- the heights of its ends, and the x of point 1
   ground_y : (y_of d (line_at d 0).earlier ≡ 0) × (y_of d (line_at d 0).later ≡ 0) × (x_of d (line_at d 0).earlier ≡ 0)
   ground_y =
-      let g = s.inv.frees.ground in
+      let g = s.inv.frees.grounded in
       let o = s.inv.core.corners.origin in
       (ap (net_of d).y g.0 ∙ o.1, ap (net_of d).y g.1 ∙ o.2, ap (net_of d).x g.0 ∙ o.0)
 

@@ -9,7 +9,7 @@ use Rattle.rules.specs.declared.Entry.{Entry}
 use Rattle.rules.specs.Basics.{if◌then◌else◌, index_of, snoc, alter}
 use Rattle.rules.specs.Styles.{taken}
 use Rattle.rules.specs.Points.{Drawing, owner_of, w, m}
-use Rattle.rules.specs.Lengths.{length-snoc}
+use Rattle.rules.proofs.Lengths.{length-snoc}
 use Rattle.rules.specs.Moving.{climb}
 use Rattle.rules.specs.Adding.{spread, inside, owned, points_of, row_height}
 use Rattle.promise.specs.Nets.{net_of}

@@ -16,8 +16,9 @@ use Rattle.rules.specs.declared.Refusal.TheVariants.{NoReach}
 use Rattle.rules.specs.Basics.{any_of}
 use Rattle.rules.specs.Refusals.{Result, good, refused, answer, ◌>>◌, refuse_if}
 use Rattle.rules.specs.Entries.{point_limit, reading, read_entry, is_both, points_read}
-use Rattle.rules.specs.Readings.{entry_of, entries-read, points-given, tests_with, tests_of, judge_of, adding}
-use Rattle.rules.specs.Lengths.{map_append}
+use Rattle.rules.specs.Readings.{entry_of, tests_with}
+use Rattle.rules.proofs.Readings.{entries-read, points-given, tests_of, judge_of, adding}
+use Rattle.rules.proofs.Lengths.{map_append}
 use Rattle.rules.specs.Styles.{bent, reach_passes}
 use Rattle.rules.specs.Points.{Drawing, opening, x_of, y_of, dl_of, dr_of, w, W}
 use Rattle.rules.specs.Adding.{l_of, r_of, D, points_of, inner, row_height, spread, new_x, new_y, change, all_reach, new_bend, new_lines, entry_tests, reach_test, call_tests, judge, placed_new, add_read, add_entries, add}

@@ -7,7 +7,7 @@ use Rattle.rules.specs.declared.Entry.{Entry}
 use Rattle.rules.specs.declared.Bend.{Bend}
 use Rattle.rules.specs.declared.Bend.TheVariants.{Left, Middle}
 use Rattle.rules.specs.Basics.{nth, alter}
-use Rattle.rules.specs.Lengths.{length_new}
+use Rattle.rules.proofs.Lengths.{length_new}
 use Rattle.rules.specs.Adding.{new_lines, new_bend, middle_of, points_of}
 
 -- the line of an entry has the new point, the entry's point and the entry's bend

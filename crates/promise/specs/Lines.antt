@@ -29,7 +29,7 @@ use Rattle.promise.specs.Sound.{Sound, Ended}
 use Rattle.promise.specs.Next.{IsRun, next}
 use Rattle.promise.specs.Moved.{length-spread}
 use Rattle.promise.specs.Counts.{get_d_snoc, snoc_new}
-use Rattle.rules.specs.Lengths.{length-points}
+use Rattle.rules.proofs.Lengths.{length-points}
 use Rattle.promise.specs.Lined.{OfEntry, Read, was, entry, read, length-lines, bend_last, bend-inner, alter_at}
 use Rattle.promise.specs.Change.{get_d_inner, length-inner, reached, reaching, unreached, change-start, change-end, first_before, first_at, middle-rising}
 

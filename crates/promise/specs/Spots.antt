@@ -52,7 +52,7 @@ pub no_bend : {d : Drawing} → Bent d → (e : ℕ) → IsLine d e → (line_at
 no_bend {d} s e el q =
     let f = s.inv.frees in
     let z = f.base e el (ap bend_kind q) in
-    let u : (net_of d).u e ≡ 0 = ap (net_of d).u z ∙ f.ground.0 in
+    let u : (net_of d).u e ≡ 0 = ap (net_of d).u z ∙ f.grounded.0 in
     (z, sym (spot-bend d e) ∙ ap (turn (net_of d) ((net_of d).u e) ((net_of d).v e)) (ap bend_kind q) ∙ ap (λ p. place_of d (suc p)) u)
 
 -- the three places of a line in the rules

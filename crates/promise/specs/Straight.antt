@@ -3,7 +3,7 @@ use Rattle.std.specs.Prelude.{ℕ, ◌+◌, ◌<◌, ◌≤◌, ◌≡◌, lengt
 use Rattle.std.proofs.Common.{arith}
 use Rattle.rules.specs.Points.{Drawing, w, m}
 use Rattle.rules.specs.DrawingFile.{highest}
-use Rattle.rules.specs.Lengths.{high_most, high-least}
+use Rattle.rules.proofs.Lengths.{high_most, high-least}
 use Rattle.net.specs.Parity.{parity}
 use Rattle.net.specs.Size.{inside, top}
 use Rattle.promise.specs.Nets.{net_of}

@@ -1,4 +1,6 @@
 // 11: the first byte where two files differ.
+#![tactic(auto)]
+
 ghost use Rattle.std.specs.Prelude.{◌≡◌, ◌&&◌, eqb};
 ghost use Rattle.rules.specs.Basics.{same};
 ghost use Rattle.rules.specs.Refusals.{answer};

@@ -13,7 +13,7 @@ use Rattle.rules.specs.Refusals.{Result, good, refused, ◌>>◌, refuse_if}
 use Rattle.rules.specs.Entries.{point_limit, read_entry, point_read, points_read}
 use Rattle.rules.specs.Points.{Drawing}
 use Rattle.rules.specs.Adding.{entry_tests, call_tests, judge, add_read, add_entries, add}
-use Rattle.rules.specs.RoundTrip.{entry_back}
+use Rattle.rules.proofs.RoundTrip.{entry_back}
 use Rattle.rules.specs.Results.{tested}
 use Rattle.read_groups.specs.Groups.{number_for}
 

@@ -6,10 +6,11 @@ use Rattle.rules.specs.declared.Style.{Style}
 use Rattle.rules.specs.declared.Style.TheVariants.{OneBend}
 use Rattle.rules.specs.Refusals.{Result, good, ◌>>◌}
 use Rattle.rules.specs.Entries.{word_of, point_limit}
-use Rattle.rules.specs.Readings.{entry_of, given_is}
+use Rattle.rules.specs.Readings.{entry_of}
+use Rattle.rules.proofs.Readings.{given_is}
 use Rattle.rules.specs.Points.{Drawing, start}
 use Rattle.rules.specs.Records.{Found, line_size}
-use Rattle.rules.specs.RoundTrip.{entry_back}
+use Rattle.rules.proofs.RoundTrip.{entry_back}
 use Rattle.rules.specs.OrderFile.{start_with}
 use Rattle.rules.specs.DrawingFile.{later_in, entry_in, group, behind, judge_rest, judge_lines, judge_drawing}
 use Rattle.rules.specs.Results.{never-good, both_pass, then-then}

@@ -1,5 +1,7 @@
 // A drawing file's records, read into the table of a drawing. Comparing its bytes with the drawing's, 11, is left to the caller.
 // For `panel`: it asks for a table of zeros.
+#![tactic(auto)]
+
 ghost use Rattle.std.specs.Prelude.{◌≡◌, length};
 ghost use Rattle.store_tables.specs.Tables.{arrays_in};
 ghost use Rattle.store_points.specs.Zeros.{zeros};

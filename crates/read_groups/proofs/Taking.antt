@@ -9,7 +9,7 @@ use lib.Seq.{take-suc-set}
 use borrow.Author.Tests.{eq-eqb, ne_eqb}
 use Rattle.rules.specs.declared.Style.{Style}
 use Rattle.rules.specs.DrawingFile.{later_in, entry_in, group, behind}
-use Rattle.rules.specs.Lengths.{lines_fit}
+use Rattle.rules.proofs.Lengths.{lines_fit}
 use Rattle.words.specs.Bytes.{word_at}
 use Rattle.rules.specs.Records.{line_size}
 use Rattle.read_groups.specs.Lines.{lines_at, line_at, line_is, lines_more, lines_none}

@@ -5,7 +5,7 @@ use Rattle.rules.specs.declared.Style.{Style}
 use Rattle.rules.specs.Styles.{line_numbers}
 use Rattle.rules.specs.Records.{Found, line_size}
 use Rattle.rules.specs.DrawingFile.{kind_from, later_in, entry_in, group_place}
-use Rattle.rules.specs.Lengths.{line-long}
+use Rattle.rules.proofs.Lengths.{line-long}
 use Rattle.words.specs.Bytes.{word_at}
 use Rattle.read_records.specs.Marked.{record_at, records_at, words_in_lem}
 

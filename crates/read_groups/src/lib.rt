@@ -1,4 +1,6 @@
 // The line records of a drawing file: the points that a line joins, its entry as a call takes it, and a point's group of lines. The functions ask that the records lie in the file; the reader above has tested it.
+#![tactic(auto)]
+
 ghost use Rattle.std.specs.Prelude.{◌≡◌, ◌+◌, ◌*◌, ◌≤◌, length};
 ghost use Rattle.rules.specs.Records.{line_size};
 ghost use Rattle.rules.specs.DrawingFile.{entry_in};

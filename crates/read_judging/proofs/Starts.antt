@@ -13,7 +13,7 @@ use Rattle.rules.specs.declared.Refusal.TheVariants.{OtherStart}
 use Rattle.rules.specs.declared.Answer.TheVariants.{Accepted, Refused}
 use Rattle.rules.specs.Refusals.{answer}
 use Rattle.rules.specs.Records.{Found, line_size}
-use Rattle.rules.specs.Lengths.{lines_fit}
+use Rattle.rules.proofs.Lengths.{lines_fit}
 use Rattle.words.specs.Bytes.{word_at}
 use Rattle.read_groups.specs.Lines.{lines_at, line_at, line_is, joins, three_lines_lem, lines_more, lines_none}
 use Rattle.read_judging.specs.Starting.{next_is, start_tests, not_2_1, two_of_2, not_3_1, not_3_2, three_of_3, starts}

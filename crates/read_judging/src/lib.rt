@@ -1,4 +1,6 @@
 // All tests of a drawing file before the groups of points 4 to n: 1, 2, 3 on the header, 1 and 2 on all other records, 10, then 4.
+#![tactic(auto)]
+
 ghost use Rattle.std.specs.Prelude.{◌≡◌, ◌+◌, ◌*◌, ◌≤◌, length};
 ghost use Rattle.rules.specs.Refusals.{answer};
 ghost use Rattle.rules.specs.Records.{head_size, line_size};

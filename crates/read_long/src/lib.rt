@@ -1,5 +1,7 @@
 // A record of an order file with more entries than a boundary has points, judged where it stands in the file.
 // For `read_orders`: it asks for the table of a drawing, and for a record that is there.
+#![tactic(auto)]
+
 ghost use Rattle.store_tables.specs.Tables.{Full, arrays_in};
 ghost use Rattle.read_long.specs.Long.{Long, LongRead};
 
@@ -10,6 +12,7 @@ use store_tables::{OWNER, YS};
 use words::word_at;
 
 // Its refusal, for `count` entries at `from` of the file: 21, then entry by entry 13, 6, 7, then 8.
+#[tactic(auto, unfolding(store_tables::specs::Tables::arrays_in))]
 pub fn judge_long(f: &[u8], from: usize, count: usize, table: &[u16], c: Counts) -> Refusal
     requires { Long f.now from count (arrays_in table.now) c × Full table.now }
     ensures { LongRead f.now from count (arrays_in table.now) c result }

@@ -1,5 +1,7 @@
 // Reads an order file into the lent table, record by record; the first refusal is the answer.
 // For `panel`: it asks for a table of zeros.
+#![tactic(auto)]
+
 ghost use Rattle.std.specs.Prelude.{◌≡◌, length};
 ghost use Rattle.rules.specs.OrderFile.{read_points, read_order};
 ghost use Rattle.store_tables.specs.Tables.{arrays_in};
@@ -14,7 +16,7 @@ use store_links::{Added, Counts};
 use store_tables::{POINTS, Table};
 
 // One point more: the numbers with it, and the offset behind its record.
-#[derive(Drop)]
+#[derive(Clone, Copy)]
 enum Step {
     Given { counts: Counts, at: usize },
     Refused(Refusal, usize),

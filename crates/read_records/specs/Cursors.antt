@@ -7,7 +7,7 @@ use Rattle.rules.specs.declared.Answer.TheVariants.{Accepted, Refused}
 use Rattle.rules.specs.Refusals.{Result, good, refused, answer, ◌>>◌, refuse_if}
 use Rattle.rules.specs.Records.{Shape, plain, Cursor, Found, words_in, words_at, rest_of, read_record, read_end, point_entries, end_shape, entries_mark, end_mark}
 use Rattle.words.specs.Bytes.{word_at}
-use Rattle.rules.specs.Lengths.{length-words}
+use Rattle.rules.proofs.Lengths.{length-words}
 use Rattle.rules.specs.Results.{refusing, all_passed}
 
 -- the file f from offset `at` on

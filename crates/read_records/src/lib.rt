@@ -1,4 +1,6 @@
 // Records in the bytes of a file: marks and numbers, as both files have them. The functions ask that the offset lies in the file; the readers above know it.
+#![tactic(auto)]
+
 ghost use Rattle.std.specs.Prelude.{◌≡◌, ◌+◌, ◌*◌, ◌≤◌, length, take, drop};
 ghost use Rattle.rules.specs.Basics.{between};
 ghost use Rattle.rules.specs.Refusals.{answer};
@@ -10,14 +12,14 @@ use rules::{Answer, END_MARK, END_SIZE, ENTRIES_MARK, NUMBER_SIZE, Refusal};
 use words::{broad, word_at};
 
 // The number of a record that holds one.
-#[derive(Drop)]
+#[derive(Clone, Copy)]
 pub enum Number {
     Given(u16),
     Refused(Refusal, usize),
 }
 
 // The entries of a point's record: how many, their offset, and the offset behind them.
-#[derive(Drop)]
+#[derive(Clone, Copy)]
 pub enum Entries {
     Given {
         count: usize,

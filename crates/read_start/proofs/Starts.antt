@@ -16,7 +16,8 @@ use Rattle.rules.specs.Bools.{neither}
 use Rattle.rules.specs.Same.{other_length}
 use Rattle.rules.specs.Refusals.{refused}
 use Rattle.rules.specs.Entries.{read_entry, is_both, point_read, points_read}
-use Rattle.rules.specs.Readings.{entry_of, entry_read}
+use Rattle.rules.specs.Readings.{entry_of}
+use Rattle.rules.proofs.Readings.{entry_read}
 use Rattle.rules.specs.Records.{words_in, read_record, point_entries}
 use Rattle.rules.specs.OrderFile.{read_points}
 use Rattle.store_links.specs.Judging.{point_in}

@@ -1,5 +1,7 @@
 // The beginning of an order file: the header, the scale, and the records of points 1 to 3.
 // For `read_orders`: it asks that the offset lies in the file.
+#![tactic(auto)]
+
 ghost use Rattle.std.specs.Prelude.{◌≡◌, [], ◌∷◌, map, ◌+◌, ◌*◌, ◌≤◌, length, drop};
 ghost use Rattle.rules.specs.Basics.{any_of};
 ghost use Rattle.rules.specs.Entries.{read_entry, is_both};
@@ -22,14 +24,14 @@ const SCALE_MARKED: usize = SCALE_AT + 2;
 const SCALE_END: usize = SCALE_AT + NUMBER_SIZE;
 
 // The header and the scale: n, s and the offset behind them.
-#[derive(Drop)]
+#[derive(Clone, Copy)]
 pub enum Head {
     Given { n: usize, s: usize, at: usize },
     Refused(Refusal, usize),
 }
 
 // The records of points 1 to 3: the entries of lines 1-2, 3-1 and 3-2, and the offset behind them.
-#[derive(Drop)]
+#[derive(Clone, Copy)]
 pub enum Start {
     Given { a: u16, b: u16, c: u16, at: usize },
     Refused(Refusal, usize),

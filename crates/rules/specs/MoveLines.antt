@@ -47,15 +47,3 @@ word_number w = if between 1 8 (length w) && all_of is_digit w then value_from 0
 
 abbrev pub words_tool : List ℕ → List ℕ → List ℕ → Tool
 words_tool p d c = record { pitch = word_number p; depth = word_number d; clearance = word_number c }
-
--- ---- worked: "0", "0.375", "1.25", "10.875" and "408880" millimetres; "plunge -0.375" and "travel 1.25 0.5"
-
-pub worked_lines :
-    (map millimetres (0 ∷ 3 ∷ 10 ∷ 87 ∷ 3271040 ∷ []) ≡ (48 ∷ []) ∷ (48 ∷ 46 ∷ 51 ∷ 55 ∷ 53 ∷ []) ∷ (49 ∷ 46 ∷ 50 ∷ 53 ∷ []) ∷ (49 ∷ 48 ∷ 46 ∷ 56 ∷ 55 ∷ 53 ∷ []) ∷ (52 ∷ 48 ∷ 56 ∷ 56 ∷ 56 ∷ 48 ∷ []) ∷ []) ×
-    (move_lines (plunge 3 ∷ travel 10 4 ∷ []) ≡ 112 ∷ 108 ∷ 117 ∷ 110 ∷ 103 ∷ 101 ∷ 32 ∷ 45 ∷ 48 ∷ 46 ∷ 51 ∷ 55 ∷ 53 ∷ 10 ∷ 116 ∷ 114 ∷ 97 ∷ 118 ∷ 101 ∷ 108 ∷ 32 ∷ 49 ∷ 46 ∷ 50 ∷ 53 ∷ 32 ∷ 48 ∷ 46 ∷ 53 ∷ 10 ∷ [])
-unfolding digits millimetres
-worked_lines = (refl, refl)
-
--- and words: "8", "80", an empty one, "8.5" and one of nine digits
-pub worked_words : map word_number ((56 ∷ []) ∷ (56 ∷ 48 ∷ []) ∷ [] ∷ (56 ∷ 46 ∷ 53 ∷ []) ∷ (48 ∷ 48 ∷ 48 ∷ 48 ∷ 48 ∷ 48 ∷ 48 ∷ 48 ∷ 56 ∷ []) ∷ []) ≡ 8 ∷ 80 ∷ 0 ∷ 0 ∷ 0 ∷ []
-worked_words = refl

@@ -1,5 +1,6 @@
 // The enums and structs that every crate shares, under document 01's names.
 // What they mean is in specs/: document 01 as definitions.
+#![tactic(auto)]
 
 // "Every record begins with a two-byte mark." Those of an order file, those of a drawing file, and the end of both.
 pub const ORDER_MARK: u16 = 0x4844;
@@ -49,7 +50,7 @@ pub const LONGEST_ORDER: usize = 10 * MOST_POINTS - 2;
 pub const LONGEST_DRAWING: usize = 42 * MOST_POINTS - 60;
 
 // "Refused because of the input", then "Refused because of the state", in the order of their numbers.
-#[derive(Drop)]
+#[derive(Clone, Copy)]
 pub enum Refusal {
     FileEnds,
     WrongMark,
@@ -74,21 +75,21 @@ pub enum Refusal {
 }
 
 // What a call answers: it is accepted, or refused with a place.
-#[derive(Drop)]
+#[derive(Clone, Copy)]
 pub enum Answer {
     Accepted,
     Refused(Refusal, usize),
 }
 
 // The two drawings: lines with one bend, or straight lines.
-#[derive(Drop)]
+#[derive(Clone, Copy)]
 pub enum Style {
     OneBend,
     Straight,
 }
 
 // Where a line bends: at a left, right or middle port, with the port's index, or nowhere.
-#[derive(Drop)]
+#[derive(Clone, Copy)]
 pub enum Bend {
     Left(u16),
     Right(u16),
@@ -97,14 +98,14 @@ pub enum Bend {
 }
 
 // What an entry says of its line: a guide isn't cut, a plain line is cut once, a feeder twice.
-#[derive(Drop)]
+#[derive(Clone, Copy)]
 pub enum Kind {
     Guide,
     Plain,
     Feeder,
 }
 
-#[derive(Drop)]
+#[derive(Clone, Copy)]
 pub struct Line {
     pub later: u16,
     pub earlier: u16,
@@ -113,21 +114,21 @@ pub struct Line {
 }
 
 // A place on the grid.
-#[derive(Drop)]
+#[derive(Clone, Copy)]
 pub struct Place {
     pub x: u16,
     pub y: u16,
 }
 
 // An entry of a call or of an order file: an earlier point, and the kind of the line to it.
-#[derive(Drop)]
+#[derive(Clone, Copy)]
 pub struct Entry {
     pub point: u16,
     pub kind: Kind,
 }
 
 // The reading of an entry's 16-bit number: an entry of one of the three kinds, or a point marked both guide and feeder.
-#[derive(Drop)]
+#[derive(Clone, Copy)]
 pub enum Reading {
     Given(Entry),
     Both(u16),

@@ -10,7 +10,8 @@ use Rattle.rules.specs.declared.Refusal.TheVariants.{NoReach}
 use Rattle.rules.specs.Refusals.{Result, good, refused, ◌>>◌, refuse_if, answer}
 use Rattle.rules.specs.Styles.{taken, reach_passes}
 use Rattle.rules.specs.Entries.{read_entry}
-use Rattle.rules.specs.Readings.{entry_of, points_read_lem}
+use Rattle.rules.specs.Readings.{entry_of}
+use Rattle.rules.proofs.Readings.{points_read_lem}
 use Rattle.store_links.specs.declared.Counts.{Counts}
 use Rattle.store_links.specs.declared.Spot.{Spot}
 use Rattle.store_links.specs.Arrays.{Arrays, Sized, at_point}

@@ -1,5 +1,7 @@
 // What an accepted adding call stores into the lent table: its point, by `store_points`, and its lines.
 // For `store_adding`: it asks for entries that passed the tests, and for the new point's place.
+#![tactic(auto)]
+
 ghost use Rattle.std.specs.Prelude.{◌≡◌, suc, ◌-◌, length};
 ghost use Rattle.store_links.specs.Storing.{code_of, with_point};
 ghost use Rattle.store_tables.specs.Tables.{Full, arrays_in};
@@ -12,6 +14,7 @@ use store_tables::{BENDS, DLS, DRS, HS, LATER, WORDS};
 use words::{narrow, point_of};
 
 // A line for each entry, from the new point, behind the lines that are there.
+#[tactic(auto, unfolding(store_links::specs::Storing::filled))]
 fn push_lines(e: &[u16], table: &mut [u16], c: Counts, rights: u16, lefts: u16, from: usize)
     requires { Pushable e.now c rights lefts × Full table.old }
     ensures { arrays_in table.new ≡ lined (arrays_in table.old) e.now c.lines (suc c.k) (code_of c.style rights lefts (length e.now - 1) from) (length e.now) }
@@ -31,6 +34,7 @@ fn push_lines(e: &[u16], table: &mut [u16], c: Counts, rights: u16, lefts: u16, 
 }
 
 // The new point over the run of the entries e, at the spot p, and its lines, with middle ports that change at `from`.
+#[tactic(auto, unfolding(store_tables::specs::Tables::arrays_in))]
 pub fn store(table: &mut [u16], c: Counts, e: &[u16], p: Spot, from: usize)
     requires { Storable (arrays_in table.old) c e.now p × Full table.old }
     ensures { arrays_in table.new ≡ with_point (arrays_in table.old) c e.now p from }

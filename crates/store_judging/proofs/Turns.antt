@@ -14,7 +14,7 @@ use Rattle.rules.specs.declared.Entry.{Entry}
 use Rattle.rules.specs.declared.Reading.TheVariants.{Given, Both}
 use Rattle.rules.specs.Refusals.{Result, good, ◌>>◌, refuse_if, answer}
 use Rattle.rules.specs.Entries.{read_entry}
-use Rattle.rules.specs.Readings.{given_is}
+use Rattle.rules.proofs.Readings.{given_is}
 use Rattle.store_links.specs.Arrays.{at_point}
 use Rattle.store_links.specs.Judging.{point_in, entries_pass, links_pass, run_passes}
 use Rattle.store_links.specs.Placing.{entry_point}

@@ -1,5 +1,7 @@
 // The tests of an adding call that need no new places, on the stored owners and links: 21, 5, then entry by entry 13, 6, 7, then 8, 9.
 // For `store_adding`, which has the arrays of full length that are asked for, and, entry by entry, for `read_long`, which has them too.
+#![tactic(auto)]
+
 ghost use Rattle.std.specs.Prelude.{◌≡◌, [], ◌∷◌, ◌≤◌, length};
 ghost use Rattle.rules.specs.Refusals.{answer};
 ghost use Rattle.store_links.specs.Judging.{entries_pass, run_passes, passes};

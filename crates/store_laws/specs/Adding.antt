@@ -4,7 +4,8 @@ use Rattle.std.proofs.Common.{ap, ◌∙◌, arith}
 use Rattle.rules.specs.declared.Reading.{Reading}
 use Rattle.rules.specs.Refusals.{Result, good, refused, answer, ◌>>◌}
 use Rattle.rules.specs.Entries.{read_entry, points_read, given_in}
-use Rattle.rules.specs.Readings.{entry_of, add_entries_lem}
+use Rattle.rules.specs.Readings.{entry_of}
+use Rattle.rules.proofs.Readings.{add_entries_lem}
 use Rattle.rules.specs.Points.{Drawing}
 use Rattle.rules.specs.Adding.{judge, placed_new, add_read, add}
 use Rattle.rules.specs.Calls.{left}

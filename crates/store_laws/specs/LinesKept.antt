@@ -14,7 +14,7 @@ use Rattle.rules.specs.Basics.{nth, alter}
 use Rattle.rules.specs.Styles.{taken, bent}
 use Rattle.rules.specs.Points.{Drawing, dl_of, dr_of, w, line_at}
 use Rattle.rules.specs.Readings.{entry_of}
-use Rattle.rules.specs.Lengths.{length-call, first_at}
+use Rattle.rules.proofs.Lengths.{length-call, first_at}
 use Rattle.rules.specs.Adding.{points_of, new_lines, new_bend, D}
 use Rattle.store_links.specs.declared.Spot.{Spot}
 use Rattle.store_links.specs.declared.Counts.{Counts}

@@ -11,7 +11,7 @@ use Rattle.rules.specs.Basics.{alter, snoc, index_of}
 use Rattle.rules.specs.Styles.{taken}
 use Rattle.rules.specs.Points.{Drawing, w, m}
 use Rattle.rules.specs.Readings.{entry_of}
-use Rattle.rules.specs.Lengths.{length-call, length-snoc, first_at}
+use Rattle.rules.proofs.Lengths.{length-call, length-snoc, first_at}
 use Rattle.rules.specs.Adding.{spread, new_y, inside, owned}
 use Rattle.net.specs.Side.{rt, lf}
 use Rattle.store_links.specs.declared.Spot.{Spot}

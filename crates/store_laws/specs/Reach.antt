@@ -8,10 +8,11 @@ use Rattle.rules.specs.Basics.{if◌then◌else◌}
 use Rattle.rules.specs.Styles.{reach_passes}
 use Rattle.rules.specs.Refusals.{refuse_if}
 use Rattle.rules.specs.Results.{then_same}
-use Rattle.rules.specs.Lengths.{length-call}
+use Rattle.rules.proofs.Lengths.{length-call}
 use Rattle.rules.specs.Points.{Drawing, x_of, y_of, w}
 use Rattle.rules.specs.Entries.{read_entry}
-use Rattle.rules.specs.Readings.{entry_of, points_read_lem, judge_of}
+use Rattle.rules.specs.Readings.{entry_of}
+use Rattle.rules.proofs.Readings.{points_read_lem, judge_of}
 use Rattle.rules.specs.Adding.{spread, new_x, new_y, inner, row_height, reaches, change, all_reach, call_tests, judge}
 use Rattle.store_links.specs.declared.Counts.{Counts}
 use Rattle.store_links.specs.declared.Spot.{Spot}

@@ -4,7 +4,7 @@ use Rattle.std.proofs.Common.{sym, ap, ◌∙◌, arith}
 use Rattle.std.proofs.lemmas.List.{length-map}
 use Rattle.rules.specs.Points.{Drawing, x_of, y_of, dl_of, dr_of, owner_of, w}
 use Rattle.rules.specs.Readings.{entry_of}
-use Rattle.rules.specs.Lengths.{first_at}
+use Rattle.rules.proofs.Lengths.{first_at}
 use Rattle.rules.specs.Adding.{points_of}
 use Rattle.store_links.specs.declared.Counts.{Counts}
 use Rattle.store_links.specs.Arrays.{Arrays, Stores, at_point}

@@ -11,9 +11,10 @@ use Rattle.rules.specs.Basics.{if◌then◌else◌, elem, index_of}
 use Rattle.rules.specs.Refusals.{good, ◌>>◌, refuse_if}
 use Rattle.rules.specs.Bools.{neither}
 use Rattle.rules.specs.Results.{test_false, tested, then_same}
-use Rattle.rules.specs.Lengths.{length-call}
+use Rattle.rules.proofs.Lengths.{length-call}
 use Rattle.rules.specs.Entries.{read_entry, is_both}
-use Rattle.rules.specs.Readings.{entry_of, point_is, points_read_lem, tests_of}
+use Rattle.rules.specs.Readings.{entry_of}
+use Rattle.rules.proofs.Readings.{point_is, points_read_lem, tests_of}
 use Rattle.rules.specs.Points.{Drawing, owner_of, w, m}
 use Rattle.rules.specs.Moving.{column}
 use Rattle.rules.specs.Adding.{l_of, points_of, entry_tests, run_tests, call_tests}

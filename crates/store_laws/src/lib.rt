@@ -1,1 +1,2 @@
 // No running code here: specs/ proves that the arrays stay true to the drawing of the rules.
+#![tactic(auto)]

@@ -1,5 +1,7 @@
 // A line, read back from the lent table; and the ports of a point, at which lines bend.
 // For the crates above: it asks for a line that is there, and for ports that lie within 16 bits.
+#![tactic(auto)]
+
 ghost use Rattle.std.specs.Prelude.{◌≡◌, ◌+◌, ◌-◌, ◌<◌, ◌≤◌};
 ghost use Rattle.rules.specs.Points.{at};
 ghost use Rattle.store_tables.specs.Tables.{Full, arrays_in};
@@ -10,6 +12,7 @@ use store_links::bend_from;
 use store_tables::{BENDS, LATER, WORDS};
 
 // Line e of the table.
+#[tactic(auto, unfolding(store_tables::specs::Tables::arrays_in))]
 pub fn line_in(table: &[u16], e: usize) -> Line
     requires { (e < 3072) × Full table.now }
     ensures { result ≡ line_in (arrays_in table.now) e }

@@ -1,5 +1,7 @@
 // How the running program keeps a drawing: boundary links and gaps, in arrays of 16-bit numbers, which one lent table keeps (crate `store_tables`).
 // The structs that its functions pass by value; specs/ says what the arrays hold and what each step does to them.
+#![tactic(auto)]
+
 ghost use Rattle.std.specs.Prelude.{◌≡◌, ◌<◌, ◌≤◌};
 ghost use Rattle.rules.specs.Adding.{new_bend};
 ghost use Rattle.rules.specs.Styles as Styles;
@@ -23,7 +25,7 @@ pub const MIDDLE_PORT: u16 = 12288;
 pub const NO_PORT: u16 = 0;
 
 // What stands beside the arrays: which of the two drawings it is, n and s as opened, k points, m of them on the boundary, and the lines so far.
-#[derive(Drop)]
+#[derive(Clone, Copy)]
 pub struct Counts {
     pub style: Style,
     pub n: usize,
@@ -35,7 +37,7 @@ pub struct Counts {
 
 // Where the new point goes, counted from wl: dx to the right of it, at height y, with the middle row h below it.
 // The inner points of the run move by s1; wr then lies rest to the right of the new point.
-#[derive(Drop)]
+#[derive(Clone, Copy)]
 pub struct Spot {
     pub dx: usize,
     pub y: usize,
@@ -45,7 +47,7 @@ pub struct Spot {
 }
 
 // What an adding call answers, and the numbers after it.
-#[derive(Drop)]
+#[derive(Clone, Copy)]
 pub struct Added {
     pub answer: Answer,
     pub counts: Counts,
@@ -123,6 +125,7 @@ pub fn line_code(style: Style, b: Bend) -> u16
 }
 
 // The bend that such a number means.
+#[tactic(auto, unfolding(crate::specs::Codes::bend_from))]
 pub fn bend_from(code: u16) -> Bend
     ensures { result ≡ bend_from code }
 {

@@ -6,7 +6,7 @@ use Rattle.rules.specs.Basics.{between}
 use Rattle.rules.specs.Points.{Drawing as Plan, at}
 use Rattle.rules.specs.Lookups.{look_point}
 use Rattle.rules.specs.Bools.{in_range}
-use Rattle.rules.specs.Lengths.{first_at}
+use Rattle.rules.proofs.Lengths.{first_at}
 use Rattle.store_links.specs.declared.Counts.{Counts}
 use Rattle.store_links.specs.Arrays.{Arrays}
 use Rattle.store_links.specs.Opening.{no_points}

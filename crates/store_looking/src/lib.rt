@@ -1,5 +1,7 @@
 // Look-ups in a lent table that holds a drawing: a point, a line, a cut line.
 // For `drawing`, whose look-ups by value are doors to these, and for `cutter` and `panel_c`, which have such tables.
+#![tactic(auto)]
+
 ghost use Rattle.std.specs.Prelude.{◌≡◌, ◌≤◌};
 ghost use Rattle.rules.specs.Basics.{between};
 ghost use Rattle.rules.specs.Readings.{entry_of};
@@ -36,6 +38,7 @@ fn is_point(k: usize, p: usize) -> bool
 }
 
 // A point's place, from the table and its settled x.
+#[tactic(auto, unfolding(store_tables::specs::Tables::arrays_in))]
 pub fn look_point(table: &Table, x: &[u16; POINTS], c: Counts, p: usize) -> PointSeen
     requires { Looks c table.now x.now }
     ensures { (q : Plan) → Holds q (arrays_in table.now) c → result ≡ point_seen (look_point q p) }
@@ -80,6 +83,7 @@ fn is_cut_to(word: u16, later: u16, p: usize) -> bool
 }
 
 // The first cut line that ends at p, or the number of lines.
+#[tactic(auto, unfolding(store_tables::specs::Tables::arrays_in, crate::specs::Cuts::cut_at))]
 fn first_cut(table: &Table, lines: usize, p: usize) -> usize
     requires { lines ≤ 3072 }
     ensures { FirstCut (arrays_in table.now) lines p result }

@@ -1,6 +1,8 @@
 // Steps 1 to 5 of an adding call, by distances from wl: where the new point goes, and which ports reach the inner points.
 // Every function reads, none stores.
 // For `store_adding`: they ask for entries that passed the tests, and for numbers that fit.
+#![tactic(auto)]
+
 ghost use Rattle.std.specs.Prelude.{◌≡◌, ◌||◌, suc, ◌+◌, ◌-◌, ◌/◌, ◌<◌, ◌≤◌, length};
 ghost use Rattle.rules.specs.Adding.{reaches};
 ghost use Rattle.store_links.specs.Arrays.{at_point};
@@ -15,7 +17,7 @@ use styles::{amount, inset};
 use words::point_of;
 
 // Which middle ports the inner points take: port i + 1 from an index on, and port i before it. Or 25.
-#[derive(Drop)]
+#[derive(Clone, Copy)]
 pub enum Ports {
     From(usize),
     NoReach,
@@ -69,6 +71,7 @@ fn row_height(entries: usize) -> usize
 }
 
 // Steps 1 to 4: where the new point goes, if wr lies `far` to the right of wl.
+#[tactic(auto, unfolding(store_links::specs::Placing::spot_of))]
 pub fn spot_of(
     style: Style,
     far: usize,

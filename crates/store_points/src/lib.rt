@@ -1,5 +1,7 @@
 // The words of points in the lent table: those of a drawing as opened, and what changes at the points of a run and at the new point.
 // For the crates above: opening asks for a table of zeros, the others for a run that passed the tests and for the new point's place.
+#![tactic(auto)]
+
 ghost use Rattle.std.specs.Prelude.{◌≡◌, pred, ◌+◌, ◌<◌, ◌≤◌, length, set};
 ghost use Rattle.rules.specs.Styles as Styles;
 ghost use Rattle.store_links.specs.Arrays.{at_point};
@@ -26,6 +28,7 @@ fn put(table: &mut [u16], at: usize, p: usize, v: usize)
 }
 
 // The inner points of the run get the new point v as their owner, and their gaps count from it.
+#[tactic(auto, unfolding(store_tables::specs::Tables::arrays_in, store_links::specs::Storing::covered_gaps, store_links::specs::Storing::covered_owners))]
 pub fn cover(e: &[u16], table: &mut [u16], p: Spot, v: u16)
     requires { Coverable e.now (arrays_in table.old).gap p × Full table.old }
     ensures { arrays_in table.new ≡ covered (arrays_in table.old) e.now p v (inner_count e.now) }
@@ -79,6 +82,7 @@ fn three(table: &mut Table, at: usize, a: u16, b: u16, c: u16)
 }
 
 // The three points and lines of a drawing of that style as opened for n points at the scale s, in a table of zeros; a, b and c are the entries of lines 1-2, 3-1 and 3-2.
+#[tactic(auto, unfolding(store_links::specs::Opening::open_arrays))]
 pub fn open_in(
     table: &mut Table,
     style: Style,

@@ -14,7 +14,7 @@ use Rattle.net.specs.Ports.{aside_of}
 use Rattle.promise.specs.Nets.{bend_kind}
 use Rattle.promise.specs.Sound.{Sound, Bent, bent, unbent}
 use Rattle.store_links.specs.declared.Counts.{Counts}
-use Rattle.rules.specs.Lengths.{first_at}
+use Rattle.rules.proofs.Lengths.{first_at}
 use Rattle.store_links.specs.Arrays.{Arrays, Stores, at_point}
 use Rattle.store_settling.specs.Bends.{bend_in, PortFits, Bendable}
 

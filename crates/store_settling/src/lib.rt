@@ -1,5 +1,7 @@
 // The x of every placed point, from links and gaps; and the place where a line bends.
 // For the crates above: it asks for the table of a drawing, which they have.
+#![tactic(auto)]
+
 ghost use Rattle.std.specs.Prelude.{◌≡◌, ◌<◌, ◌≤◌, length, get_or};
 ghost use Rattle.store_tables.specs.Tables.{Full, arrays_in};
 ghost use Rattle.store_settling.specs.Walk.{first_pass, Walks};
@@ -60,6 +62,7 @@ fn hang(x: &mut [u16; POINTS], gap: &[u16], owner: &[u16], k: usize)
 }
 
 // The x of every placed point.
+#[tactic(auto, unfolding(store_tables::specs::Tables::arrays_in))]
 pub fn settle(x: &mut [u16; POINTS], table: &[u16], k: usize)
     requires { Settleable x.old (arrays_in table.now) k × Full table.now }
     ensures { Settled x.new (arrays_in table.now) k }

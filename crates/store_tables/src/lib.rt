@@ -1,5 +1,7 @@
 // The one lent table that keeps a drawing, and where each of its regions starts: seven with a word for each point, three with a word for each line.
 // Crate `store_links` says what each of them holds.
+#![tactic(auto)]
+
 use rules::MOST_POINTS;
 
 // Room for so many points, and so many lines.

@@ -1,4 +1,6 @@
 // What the two drawings differ in, as the running program needs it: the code of what `rules` has in specs/Styles.
+#![tactic(auto)]
+
 ghost use Rattle.std.specs.Prelude.{◌≡◌, ◌<◌, ◌≤◌};
 ghost use Rattle.rules.specs.Records as Records;
 ghost use Rattle.rules.specs.Styles as Styles;

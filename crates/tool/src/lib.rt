@@ -1,10 +1,12 @@
 // The tool's numbers, and a move of the cutter in f32: eighths of a millimetre, exactly.
+#![tactic(auto)]
+
 ghost use Rattle.std.specs.Prelude.{◌≡◌, ◌<◌, ◌≤◌};
 ghost use Rattle.tool.specs.Checking.{whole_number, WholePart, checked_of};
 ghost use Rattle.tool.specs.Showing.{over_eight, move_kind, move_numbers};
 
 // The tool as it is handed over: each f32 a whole number of eighths of a millimetre.
-#[derive(Drop)]
+#[derive(Clone, Copy)]
 pub struct Tool {
     pub pitch: f32,
     pub depth: f32,
@@ -12,7 +14,7 @@ pub struct Tool {
 }
 
 // The same as whole numbers.
-#[derive(Drop)]
+#[derive(Clone, Copy)]
 pub struct Numbers {
     pub pitch: u32,
     pub depth: u32,
@@ -20,14 +22,14 @@ pub struct Numbers {
 }
 
 // What the check of a tool answers.
-#[derive(Drop)]
+#[derive(Clone, Copy)]
 pub enum Checked {
     Good(Numbers),
     Bad,
 }
 
 // A move of the cutter in millimetres: to a place, or to a height.
-#[derive(Drop)]
+#[derive(Clone, Copy)]
 pub enum Move {
     Travel(f32, f32),
     Plunge(f32),
@@ -75,6 +77,7 @@ pub fn check_tool(t: Tool) -> Checked
 }
 
 // n eighths of a millimetre, with no error. For `cutter_lines`: it asks that n is an f32.
+#[tactic(auto, unfolding(crate::specs::Showing::over_eight))]
 pub fn over_eight(n: u32) -> f32
     requires { n < 16777216 }
     ensures { result ≡ over_eight n }

@@ -6,7 +6,7 @@ use Rattle.std.proofs.Math.Seq.{length-sets}
 use Rattle.rules.specs.Refusals.{good}
 use Rattle.rules.specs.Records.{bytes_of}
 use Rattle.rules.specs.Output.{filled}
-use Rattle.rules.specs.Lengths.{length-bytes, bytes_append}
+use Rattle.rules.proofs.Lengths.{length-bytes, bytes_append}
 use Rattle.words.specs.Bytes.{with_word}
 
 -- ---- bytes, or other elements

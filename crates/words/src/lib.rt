@@ -1,6 +1,8 @@
 // 16-bit numbers: widened to compute with, narrowed to store, in byte slices, high byte first, and as entries, split by mask and shift and put together by shift and or.
 // The one place that looks at an entry's bits, and at a line's last field in a drawing file.
 // The functions ask that a number fits and that an offset lies in the slice; the crates above have tested it.
+#![tactic(auto)]
+
 ghost use Rattle.std.specs.Prelude.{◌≡◌, ◌+◌, ◌<◌, length};
 ghost use Rattle.words.specs.Bytes.{word_at, with_word};
 ghost use Rattle.rules.specs.Entries.{point_limit, read_entry, top_bits, word_of, is_cut, is_both};

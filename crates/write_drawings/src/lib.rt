@@ -1,5 +1,7 @@
 // Writes the drawing file of a finished drawing from the lent table and its settled x.
 // For `write_files`: it asks for a finished drawing and room in the buffer, which are tested there.
+#![tactic(auto)]
+
 ghost use Rattle.std.specs.Prelude.{◌≡◌, List, ℕ, ◌+◌, ◌*◌, ◌<◌, ◌≤◌, length, take};
 ghost use Rattle.rules.specs.Points.{Drawing};
 ghost use Rattle.rules.specs.Refusals.{good};
@@ -121,6 +123,7 @@ fn write_lines(out: &mut [u8], at: usize, x: &[u16; POINTS], table: &[u16], c: C
 }
 
 // The drawing file of the finished drawing that the table holds, whose x are settled: into the start of the buffer.
+#[tactic(auto, unfolding(store_tables::specs::Tables::arrays_in))]
 pub fn write_drawing(out: &mut [u8], x: &[u16; POINTS], table: &[u16], c: Counts)
     requires { Writable x.now (arrays_in table.now) c out.old × Full table.now }
     ensures { (d : Drawing) → Finished d x.now (arrays_in table.now) c →

@@ -1,5 +1,7 @@
 // Both files of the drawing in a lent table, written into a buffer that the caller lends: 24 where it is short.
 // For `panel` and `panel_asked`: it asks for the table of a drawing, a finished one where it does not test that.
+#![tactic(auto)]
+
 ghost use Rattle.std.specs.Prelude.{◌≡◌, ◌≤◌};
 ghost use Rattle.rules.specs.Refusals.{good};
 ghost use Rattle.rules.specs.Styles.{drawing_length};

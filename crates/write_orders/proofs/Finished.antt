@@ -8,7 +8,7 @@ use Rattle.rules.specs.Refusals.{good}
 use Rattle.rules.specs.Points.{Drawing}
 use Rattle.rules.specs.OrderFile.{write_order}
 use Rattle.rules.specs.Output.{filled}
-use Rattle.rules.specs.Lengths.{length-bytes}
+use Rattle.rules.proofs.Lengths.{length-bytes}
 use Rattle.store_links.specs.declared.Counts.{Counts}
 use Rattle.store_links.specs.Arrays.{Arrays, Stores}
 use Rattle.promise.specs.Bounds.{lines_most}

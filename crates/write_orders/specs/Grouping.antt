@@ -27,7 +27,7 @@ use Rattle.store_links.specs.declared.Counts.{Counts}
 use Rattle.store_links.specs.Arrays.{Arrays, Stores}
 use Rattle.exchange.specs.Built.{Built, begun, added, Whole}
 use Rattle.exchange.specs.Entries.{ends, entry_for, lengthened}
-use Rattle.rules.specs.Lengths.{bytes_append}
+use Rattle.rules.proofs.Lengths.{bytes_append}
 use Rattle.write_orders.specs.Writing.{count_of, entry_words, point_words, points_words, head_words, order_words}
 
 -- ---- later points rise

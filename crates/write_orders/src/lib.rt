@@ -1,5 +1,7 @@
 // The order writer: the order file of a finished drawing, in one pass over its stored lines.
 // For `write_files`: it asks for a finished drawing and room in the buffer, which are tested there.
+#![tactic(auto)]
+
 ghost use Rattle.std.specs.Prelude.{◌≡◌, ◌+◌, ◌-◌, ◌*◌, ◌≤◌, length};
 ghost use Rattle.rules.specs.Points.{Drawing};
 ghost use Rattle.rules.specs.OrderFile.{write_order, longest_order};
@@ -97,6 +99,7 @@ fn put_head(out: &mut [u8], n: usize, s: usize) -> usize
 }
 
 // Writes the order file of the finished drawing that the table holds. Returns the number of bytes.
+#[tactic(auto, unfolding(store_tables::specs::Tables::arrays_in))]
 pub fn write_order(out: &mut [u8], table: &[u16], c: Counts) -> usize
     requires { OrderWritable out.old (arrays_in table.now) c × Full table.now }
     ensures { (d : Drawing) → Whole d → Stores d (arrays_in table.now) c → OrderWritten d out.old out.new result }

@@ -1,4 +1,6 @@
 // The records of both files that have one size, written one by one, for the two writers: they ask for room in the buffer, which is tested above.
+#![tactic(auto)]
+
 ghost use Rattle.std.specs.Prelude.{[], ◌∷◌, ◌+◌, ◌<◌, ◌≤◌, length};
 ghost use Rattle.rules.specs.declared.Style.TheVariants.{OneBend, Straight};
 ghost use Rattle.rules.specs.Records.{head_size, place_size, line_size, written, drawing_head, point_place, line_shape, end_mark};

@@ -1,0 +1,14 @@
+pub mod Ten
+pub mod Cases
+pub mod Feeders
+pub mod Straights
+pub mod Dwells
+pub mod CutLines
+pub mod Lowest
+pub mod LowestLine
+pub mod RoundTrip
+pub mod Dwelling
+pub mod Lengths
+pub mod Readings
+pub mod Decimal
+pub mod MoveLines
