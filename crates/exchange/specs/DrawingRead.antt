@@ -16,8 +16,8 @@ use Rattle.rules.specs.DrawingFile.{highest, write_points, drawing_bytes, compar
 use Rattle.promise.specs.Next.{next}
 use Rattle.promise.specs.Accepted.{accepted}
 use Rattle.promise.specs.Border.{m'}
-use Rattle.promise.specs.Bounds.{Standing, standing-start, standing-added}
-use Rattle.promise.specs.Within.{counted}
+use Rattle.promise.proofs.Bounds.{Standing, standing-start, standing-added}
+use Rattle.promise.proofs.Within.{counted}
 use Rattle.exchange.specs.Built.{Built, begun, added, Whole}
 use Rattle.rules.specs.Bools.{both, in_range, range_in}
 use Rattle.rules.specs.Results.{never-good, bound, binds_to, tested, goes_to, followed, same_value}

@@ -1,7 +1,6 @@
 -- A number in decimal digits, as the programs print it: most significant digit first, no zero in front, in ASCII.
-use Rattle.std.specs.Prelude.{ℕ, zero, suc, ◌+◌, ◌-◌, ◌*◌, ◌/◌, ◌%◌, ◌≤◌, ◌<◌, ◌≡◌, refl, Bool, true, false, ◌&&◌, List, [], ◌∷◌, length, ltb}
-use Rattle.std.proofs.Common.{ap, ◌∙◌, arith, length-append, le-leb, lt-ltb, le-ltb, ltb-true, ltb-false}
-use Rattle.rules.specs.Basics.{if◌then◌else◌, between, snoc, head_of, all_of}
+use Rattle.std.specs.Prelude.{ℕ, zero, suc, ◌+◌, ◌-◌, ◌*◌, ◌/◌, ◌%◌, Bool, List, [], ◌∷◌, ltb}
+use Rattle.rules.specs.Basics.{if◌then◌else◌, between, snoc}
 
 -- the ASCII code of a digit
 abbrev pub digit : ℕ → ℕ

@@ -15,7 +15,7 @@ use Rattle.promise.specs.Sound.{Sound}
 use Rattle.promise.specs.Next.{IsRun, next}
 use Rattle.promise.specs.Columns.{style_next, k_next}
 use Rattle.promise.specs.Border.{m'}
-use Rattle.promise.specs.Within.{counted}
+use Rattle.promise.proofs.Within.{counted}
 use Rattle.store_laws.specs.Spotted.{Spotted}
 use Rattle.store_laws.specs.Puts.{length-put, length-gaps, length-owners, length-filled}
 use Rattle.store_laws.specs.Points.{Call, after, size, ys_kept, hs_kept, dls_kept, drs_kept, owner_kept}
