@@ -12,8 +12,8 @@ use Rattle.planar_rules.specs.PlanarCode.{Flat, net_of, formed?, taken?, Point, 
 use Rattle.planar_sphere.specs.Count.{bool, clash, count, count-max, put, put_else, put-case, count-put, count_same}
 use Rattle.planar_sphere.specs.Map.{Net}
 use Rattle.planar_sphere.specs.Flat.{Listed, bound, Valid}
-use Rattle.planar_sphere.specs.Check.{good, net_of_lem, back_own, taken_yes}
-use Rattle.planar_sphere.specs.Order.{sound, point_1, line_12, size}
+use Rattle.planar_sphere.proofs.Check.{good, net_of_lem, back_own, taken_yes}
+use Rattle.planar_sphere.proofs.Order.{sound, point_1, line_12, size}
 use Rattle.planar_sphere.specs.Program.{net-map}
 use Rattle.planar_order.specs.File.{four, listed}
 use Rattle.planar_order.specs.Model.{Stands, numbered, Distinct, index_is}
