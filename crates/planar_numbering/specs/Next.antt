@@ -11,7 +11,7 @@ use Rattle.planar_rules.specs.PlanarCode.{Flat, place, run, lowest, open?, next,
 use Rattle.planar_sphere.specs.Count.{count}
 use Rattle.planar_sphere.specs.Arc.{turn_in}
 use Rattle.planar_sphere.specs.Flat.{Listed, bound, Valid}
-use Rattle.planar_sphere.specs.Check.{good, net_of_lem}
+use Rattle.planar_sphere.proofs.Check.{good, net_of_lem}
 use Rattle.planar_sphere.specs.Program.{Is, Free}
 use Rattle.planar_order.specs.Seqs.{new_length}
 use Rattle.planar_order.specs.Model.{Distinct}

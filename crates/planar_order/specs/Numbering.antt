@@ -13,9 +13,10 @@ use Rattle.planar_sphere.specs.Count.{count, put, count-put, count_none, count_s
 use Rattle.planar_sphere.specs.Map.{Map, Net, turn}
 use Rattle.planar_sphere.specs.Arc.{turn-zero, turn_suc, turn_in, turn-org}
 use Rattle.planar_sphere.specs.Flat.{Listed, once, before, Valid}
-use Rattle.planar_sphere.specs.Check.{net_of_lem, back_own, place-hit}
-use Rattle.planar_sphere.specs.Order.{sound, line_12, size}
-use Rattle.planar_sphere.specs.Program.{State, Is, Free, net-map, begins}
+use Rattle.planar_sphere.proofs.Check.{net_of_lem, back_own, place-hit}
+use Rattle.planar_sphere.proofs.Order.{sound, line_12, size}
+use Rattle.planar_sphere.specs.Program.{State, Is, Free, net-map}
+use Rattle.planar_sphere.proofs.Program.{begins}
 use Rattle.planar_order.specs.Seqs.{gathers, new_length}
 use Rattle.planar_order.specs.Model.{Over, Chain, end, link, over, by_ends}
 use Rattle.planar_order.specs.Step.{among, state_of, in_net, not_yet, is_line, each_line, is_open, free-yes, its_arc, p_some, E-length, E-left, E-right, is_next, one_more}

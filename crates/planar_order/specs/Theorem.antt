@@ -1,7 +1,7 @@
 -- THE THEOREM: a file that passes the tests yields an order, and the order is one that the drawing rules take.
 use Prim.Native.Nat.{ℕ, zero, suc, ◌+◌, ◌-◌, ◌*◌, ◌<◌, ◌≤◌}
 use Rattle.std.specs.Prelude.{◌≡◌, refl, ◌≢◌, List, [], ◌∷◌, map, Bool, true, false, length, get_or, eqb}
-use Rattle.std.proofs.Common.{ap, sym, ◌∙◌, inl, inr, arith, length-append, eq-eqb, eqb-true}
+use Rattle.std.proofs.Common.{ap, subst, sym, ◌∙◌, inl, inr, arith, length-append, eq-eqb, eqb-true}
 use Rattle.std.proofs.lemmas.List.{length-map}
 use Rattle.rules.specs.Basics.{if◌then◌else◌, index_of}
 use Rattle.rules.specs.Indices.{index_at, index_le}
@@ -12,8 +12,8 @@ use Rattle.planar_rules.specs.PlanarCode.{Flat, net_of, formed?, taken?, Point, 
 use Rattle.planar_sphere.specs.Count.{bool, clash, count, count-max, put, put_else, put-case, count-put, count_same}
 use Rattle.planar_sphere.specs.Map.{Net}
 use Rattle.planar_sphere.specs.Flat.{Listed, bound, Valid}
-use Rattle.planar_sphere.specs.Check.{good, net_of_lem, back_own, taken_yes}
-use Rattle.planar_sphere.specs.Order.{sound, point_1, line_12, size}
+use Rattle.planar_sphere.proofs.Check.{good, net_of_lem, back_own, taken_yes}
+use Rattle.planar_sphere.proofs.Order.{sound, point_1, line_12, size}
 use Rattle.planar_sphere.specs.Program.{net-map}
 use Rattle.planar_order.specs.File.{four, listed}
 use Rattle.planar_order.specs.Model.{Stands, numbered, Distinct, index_is}
@@ -202,7 +202,7 @@ module _ (f : Flat) (l : Listed f) (v : Valid f) (own0 : f.own 0 ≡ 0) where
   vs-every : (x : ℕ) → x < f.n → (index_of x vs < f.n) × (get_or vs (index_of x vs) 0 ≡ x)
   vs-every x xl =
       let q = vs_where x xl in
-      let m : index_of x vs ≤ q.0 = rw q.2 at (index_le vs q.0 q.1) in
+      let m : index_of x vs ≤ q.0 = subst (λ z. index_of z vs ≤ q.0) q.2 (index_le vs q.0 q.1) in
       (omega (arith, q.1, vs-length), index_at x vs (omega (arith, q.1)))
 
   number_of : (i : ℕ) → i < f.n → point_of vs (get_or vs i 0) ≡ suc i
