@@ -18,7 +18,7 @@ use Rattle.rules.specs.Readings.{entry_of}
 use Rattle.rules.proofs.Readings.{add_entries_lem}
 use Rattle.rules.specs.Records.{plain, counted, Cursor, Found, first, words_in, skip, words_at, rest_of, read_record, read_end, marked, from_start, order_head, scale_shape, point_entries, line_size, end_shape}
 use Rattle.rules.specs.OrderFile.{Scaled, given_scale, read_scale, entries_in, start_with, read_rest, read_points, read_order, longest_order, write_order}
-use Rattle.rules.specs.DrawingFile.{drawing_bytes, longest_drawing, write_drawing, draw_file, read_drawing, order_back}
+use Rattle.rules.specs.DrawingFile.{drawing_bytes, longest_drawing}
 use Rattle.rules.specs.Bools.{in_range}
 use Rattle.rules.specs.Results.{same_value, bound, followed, tested, test_false, placed-good}
 use Rattle.rules.proofs.Lengths.{length-points, length-words}
@@ -27,9 +27,8 @@ use Rattle.exchange.specs.Built.{Whole}
 use Rattle.exchange.specs.Entries.{lengthened}
 use Rattle.exchange.specs.OrderRead.{said_in, three-read}
 use Rattle.exchange.specs.OrderWrite.{order-written}
-use Rattle.exchange.specs.WholeRead.{whole_read, style-read}
-use Rattle.exchange.specs.DrawingRead.{sizes, drawing-read, length-drawing}
-use Rattle.exchange.specs.Demand2.{drawn_as, undraw_draw}
+use Rattle.exchange.specs.WholeRead.{whole_read}
+use Rattle.exchange.specs.DrawingRead.{sizes, length-drawing}
 use Rattle.exchange.specs.Lengths.{scale_bytes}
 
 -- ---- a record that is read
@@ -177,10 +176,6 @@ order_longest τ o d h n s =
     let e : scale_bytes d.s ≡ 4 = rw (ne_eqb d.s 1 (omega (arith, s))) in
     omega (arith, order-length τ o d h, n, e)
 
--- An order file that comes back from a drawing file isn't longer either.
-pub back_most : (τ : Style) (b o : List ℕ) → order_back τ b ≡ good o → length o ≤ longest_order
-back_most τ b o h = let r = bound (read_order τ o) write_drawing b (undraw_draw τ b o h) in order_most τ o r.value r.first
-
 -- ---- drawing files: "Size: 42n - 60 bytes", and a straight one's "is then 4 bytes a line less"
 
 -- The drawing file of a finished drawing.
@@ -191,16 +186,6 @@ whole_length d w = length-drawing d w ∙ go d.style d.n w.reached.low
     go OneBend n low = omega arith
     go Straight n low = omega arith
 
--- A DRAWING FILE THAT IS READ.
-pub drawing_length_lem : (τ : Style) (b : List ℕ) (d : Drawing) → read_drawing τ b ≡ good d → length b ≡ drawing_length τ d.n
-drawing_length_lem τ b d h = let t = drawing-read τ b d h in ap length t.1 ∙ whole_length d t.0 ∙ ap (λ σ. drawing_length σ d.n) t.2
-
--- THE DRAWING FILE OF AN ACCEPTED ORDER FILE.
-pub drawn-length : (τ : Style) (o b : List ℕ) (d : Drawing) → read_order τ o ≡ good d → draw_file τ o ≡ good b → length b ≡ drawing_length τ d.n
-drawn-length τ o b d h q =
-    let w = whole_read τ o d h in
-    ap length (same_value b (drawing_bytes d) (sym q ∙ drawn_as τ o d w h)) ∙ whole_length d w ∙ ap (λ σ. drawing_length σ d.n) (style-read τ o d h)
-
 -- Four bytes a line less.
 pub straight-length : (n : ℕ) → 3 ≤ n → drawing_length Straight n + 4 * (3 * n - 6) ≡ drawing_length OneBend n
 straight-length n low = omega arith
@@ -209,17 +194,3 @@ straight-length n low = omega arith
 pub length_most : (τ : Style) (n : ℕ) → n ≤ 1024 → drawing_length τ n ≤ longest_drawing
 length_most OneBend n h = omega arith
 length_most Straight n h = omega arith
-
--- The drawing file of a finished drawing isn't longer than that of 1,024 points with bends, 42,948 bytes.
-pub whole_most : (d : Drawing) → Whole d → length (drawing_bytes d) ≤ longest_drawing
-whole_most d w = omega (arith, whole_length d w, length_most d.style d.n w.reached.high)
-
--- Nor is one that is read.
-pub drawing_most : (τ : Style) (b : List ℕ) (d : Drawing) → read_drawing τ b ≡ good d → length b ≤ longest_drawing
-drawing_most τ b d h = omega (arith, drawing_length_lem τ b d h, length_most τ d.n (drawing-read τ b d h).0.reached.high)
-
--- The same of the drawing of an accepted order file.
-pub drawn_most : (τ : Style) (o b : List ℕ) → draw_file τ o ≡ good b → length b ≤ longest_drawing
-drawn_most τ o b q =
-    let r = bound (read_order τ o) write_drawing b q in
-    omega (arith, drawn-length τ o b r.value r.first q, length_most τ r.value.n (whole_read τ o r.value r.first).reached.high)
