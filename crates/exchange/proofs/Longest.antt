@@ -1,11 +1,10 @@
 -- What follows from the lengths: of files that are read and written, and the longest of them.
-use Rattle.std.specs.Prelude.{ℕ, ◌-◌, ◌≤◌, ◌≡◌, List, [], length}
+use Rattle.std.specs.Prelude.{ℕ, ◌≤◌, ◌≡◌, List, length}
 use Rattle.std.proofs.Common.{ap, sym, ◌∙◌, arith}
 use Rattle.rules.specs.declared.Style.{Style}
-use Rattle.rules.specs.Refusals.{good, ◌>>=◌}
+use Rattle.rules.specs.Refusals.{good}
 use Rattle.rules.specs.Styles.{drawing_length}
 use Rattle.rules.specs.Points.{Drawing}
-use Rattle.rules.specs.Records.{first}
 use Rattle.rules.specs.OrderFile.{read_order, longest_order}
 use Rattle.rules.specs.DrawingFile.{drawing_bytes, longest_drawing, write_drawing, draw_file, read_drawing, order_back}
 use Rattle.rules.specs.Results.{same_value, bound}

@@ -1,7 +1,7 @@
 -- What a straight drawing keeps: the clauses that are its own. The rest are those of both drawings (Edges, Planar, Within).
 use Rattle.std.specs.Prelude.{ℕ, ◌+◌, ◌<◌, ◌≤◌, ◌≡◌, length, get_or}
 use Rattle.std.proofs.Common.{arith}
-use Rattle.rules.specs.Points.{Drawing, w, m}
+use Rattle.rules.specs.Points.{Drawing, m}
 use Rattle.rules.specs.DrawingFile.{highest}
 use Rattle.rules.proofs.Lengths.{high_most, high-least}
 use Rattle.net.specs.Parity.{parity}

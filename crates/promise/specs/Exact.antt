@@ -8,7 +8,6 @@ use Rattle.rules.specs.Styles.{inset}
 use Rattle.rules.specs.Points.{Drawing, x_of, y_of, dl_of, dr_of, h_of, w, m, line_at}
 use Rattle.rules.specs.Ports.{has_port}
 use Rattle.rules.specs.Adding.{step1, step2, A, B, spread}
-use Rattle.net.specs.Net.{middle}
 use Rattle.promise.specs.Promise.{IsLine}
 
 -- ---- the claim: ports

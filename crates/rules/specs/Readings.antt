@@ -1,5 +1,5 @@
 -- Entries without the test of 13, and the tests with their run beside them.
-use Rattle.std.specs.Prelude.{ℕ, zero, suc, ◌/◌, ◌%◌, List, [], length, drop, leb, ltb}
+use Rattle.std.specs.Prelude.{ℕ, zero, suc, ◌/◌, ◌%◌, List, length, drop, leb, ltb}
 use Rattle.rules.specs.declared.Kind.{Kind}
 use Rattle.rules.specs.declared.Kind.TheVariants.{Guide, Plain, Feeder}
 use Rattle.rules.specs.declared.Entry.{Entry}
