@@ -1,11 +1,8 @@
 -- `store_judging::judge_entries` meets its contract. The loop's invariant: the answer is that of the entries from i on.
 use Prim.Native.Nat.{◌-◌, ◌≤◌}
-use mathlib.Core.Path.{◌≡◌, refl, ap, sym, ◌∙◌}
-use lib.ListN.{length, drop, drop_of_length-le}
-use borrow.Author.Rules.{rules}
-use Rattle.rules.specs.Refusals.{answer}
+use mathlib.Core.Path.{◌≡◌}
+use lib.ListN.{length, drop}
 use Rattle.store_links.specs.Judging.{entries_pass}
-use Rattle.store_judging.specs.Passed.{entry-refused, entry_passed}
 use Rattle.store_judging.proofs.judge_entries.Given as goal
 
 abbrev pub invariant-loop-i : goal.invariant-loop-i

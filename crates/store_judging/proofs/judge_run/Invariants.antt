@@ -1,13 +1,9 @@
 -- `store_judging::judge_run` meets its contract. The loop's invariant: the answer is that of the links from entry i on.
-use Prim.Native.Nat.{◌+◌, ◌-◌, ◌<◌, ◌≤◌}
-use mathlib.Core.Path.{◌≡◌, ◌∙◌}
-use native.Mathlib.Omega.{arith}
-use lib.ListN.{length, drop, drop_of_length-le}
-use borrow.Author.Rules.{rules}
-use borrow.Author.Tests.{eq-eqb, ne_eqb}
+use Prim.Native.Nat.{◌-◌, ◌≤◌}
+use mathlib.Core.Path.{◌≡◌}
+use lib.ListN.{length, drop}
 use Rattle.store_links.specs.Judging.{links_pass, run_passes}
 use Rattle.store_links.specs.Placing.{entry_point}
-use Rattle.store_judging.proofs.Turns.{link_first, link-turn, link_start}
 use Rattle.store_judging.proofs.judge_run.Given as goal
 
 abbrev pub invariant-loop-i : goal.invariant-loop-i
