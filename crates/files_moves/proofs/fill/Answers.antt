@@ -7,5 +7,5 @@ pub returns : goal.returns
 returns g c =
     record {
       within = (c.moves_page.ensures _ (began_itself _ _ c.requires.1)).fits;
-      printed = λ file b. (_, _, _, c.moves_page.ensures file b);
+      printed = λ file b. (take c.word-p.result c.word-p.new.buffer, take c.word-d.result c.word-d.new.buffer, take c.word-c.result c.word-c.new.buffer, c.moves_page.ensures file b);
     }
