@@ -1,6 +1,7 @@
 -- WISH 3, WHICH CUTS ARE LEFT OUT. In a one-bend drawing a line gives five moves each time that it is cut, or four: where its free piece has no length, or where it has no port, as line 1-2. A straight line gives four.
 -- Every word is a definition of `rules`.
 use Rattle.std.specs.Prelude.{ℕ, ◌≡◌, Bool, not, ◌&&◌, ◌||◌, if◌then◌else◌, suc, pred, ◌+◌, ◌-◌, ◌<◌, ◌≤◌, refl, ◌⊎◌, true, false, length, eqb}
+use Rattle.std.proofs.Common.{sym, ap, ◌∙◌, inl, inr, arith, eq-eqb, ne_eqb, eqb-true}
 use Rattle.rules.specs.declared.Style.{Style}
 use Rattle.rules.specs.declared.Style.TheVariants.{OneBend, Straight}
 use Rattle.rules.specs.declared.Line.{Line}
