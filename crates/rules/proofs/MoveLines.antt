@@ -1,8 +1,8 @@
 -- Worked cases of the lines of moves and of the words of the tool, by computing.
-use Rattle.std.specs.Prelude.{ℕ, zero, suc, ◌/◌, ◌%◌, ◌&&◌, ◌≡◌, ◌<◌, ◌≤◌, refl, List, [], ◌∷◌, ◌++◌, map, length, take, leb}
+use Rattle.std.specs.Prelude.{ℕ, zero, suc, ◌/◌, ◌%◌, ◌&&◌, ◌≡◌, ◌<◌, ◌≤◌, refl, List, [], ◌∷◌, ◌++◌, map, length, take, leb, if◌then◌else◌}
 use Rattle.std.proofs.Common.{ap, ◌∙◌, ◌++◌, lit<, lit≤}
 use Rattle.rules.specs.declared.Style.{Style}
-use Rattle.rules.specs.Basics.{if◌then◌else◌, between, all_of}
+use Rattle.rules.specs.Basics.{between, all_of}
 use Rattle.rules.specs.Refusals.{good, ◌>>=◌}
 use Rattle.rules.specs.Basics.{snoc}
 use Rattle.rules.specs.Decimal.{digits, is_digit, value_from}

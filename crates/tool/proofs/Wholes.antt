@@ -1,11 +1,12 @@
 -- The test of an f32 against a whole number, and the range of a truncating cast.
+use Rattle.std.specs.Prelude.{if◌then◌else◌}
 use Rattle.std.proofs.Common.{◌≡◌, ℕ, zero, suc, ◌+◌, ◌*◌, ◌^◌, ◌<◌, ◌≤◌, Bool, true, false, ◌&&◌, ◌||◌, T, eqb, leb, pos, sym, refl, ap, ◌∙◌, subst, ⊎_elim, true≢false, lt_trans, lt_irrefl, mul-lt-mul_of_pos_right, mul-pos, arith, lit<, eqb→eq, lt-ltb, eq-eqb, le-leb}
 use native.Mathlib.Nat.{eq_of_mul-eq-mul_right}
 use mathlib.Core.Bool.{beq, and-true}
 use lib.Ieee.{Float, nan, inf, fin, binary32, up, down, eq, lt, of_int, to_unsigned}
 use lib.Ieee.Fits.{down_pos, and_l, and_r}
 use lib.Ieee.Exact.{HasValue}
-use Rattle.rules.specs.Basics.{if◌then◌else◌, between}
+use Rattle.rules.specs.Basics.{between}
 use Rattle.tool.specs.declared.Tool.{Tool}
 use Rattle.tool.specs.declared.Checked.TheVariants.{Good, Bad}
 use Rattle.tool.specs.Checking.{whole_number, WholePart, checked_of}
