@@ -1,7 +1,6 @@
 -- "Where the answer is an enum, there is a definition that gives this paper's number and values for each of its cases."
-use Rattle.std.specs.Prelude.{ℕ, ◌*◌, ◌≡◌, refl, List, length, ltb}
+use Rattle.std.specs.Prelude.{ℕ, ◌*◌, ◌≡◌, refl, List, length, ltb, if◌then◌else◌}
 use Rattle.rules.specs.declared.Refusal.TheVariants.{OutputShort}
-use Rattle.rules.specs.Basics.{if◌then◌else◌}
 use Rattle.rules.specs.declared.Place.{Place}
 use Rattle.rules.specs.Refusals.{number, Result, good, refused, Told, gives, refused_with, told}
 use Rattle.rules.specs.Lookups.{Sought, cut_line, no_cut_line}

@@ -1,10 +1,9 @@
 -- A line as it is cut: its moves, as often as it is cut, each time without the cuts to where the cutter is.
-use Rattle.std.specs.Prelude.{ℕ, ◌+◌, ◌*◌, ◌≤◌, Bool, ◌&&◌, List, get_or, leb}
+use Rattle.std.specs.Prelude.{ℕ, ◌+◌, ◌*◌, ◌≤◌, Bool, ◌&&◌, List, get_or, leb, if◌then◌else◌}
 use Rattle.rules.specs.declared.Kind.{Kind}
 use Rattle.rules.specs.declared.Kind.TheVariants.{Guide, Plain, Feeder}
 use Rattle.rules.specs.declared.Style.TheVariants.{OneBend}
 use Rattle.rules.specs.declared.Place.{Place}
-use Rattle.rules.specs.Basics.{if◌then◌else◌}
 use Rattle.rules.specs.Moves.{Tool as WholeTool, Move as WholeMove, lift, line_moves, without_dwelling, repeated}
 use Rattle.rules.proofs.Dwelling.{moves_each}
 use Rattle.tool.specs.declared.Numbers.{Numbers}

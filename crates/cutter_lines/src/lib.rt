@@ -2,8 +2,7 @@
 // For the crates above: it asks for places on the grid and numbers in range, which are tested or proved there.
 #![tactic(auto)]
 
-ghost use Rattle.std.specs.Prelude.{◌≡◌, ◌+◌, ◌*◌, ◌≤◌, ◌<◌};
-ghost use Rattle.rules.specs.Basics.{if◌then◌else◌};
+ghost use Rattle.std.specs.Prelude.{◌≡◌, ◌+◌, ◌*◌, ◌≤◌, ◌<◌, if◌then◌else◌};
 ghost use Rattle.rules.specs.Meeting.{same_place};
 ghost use Rattle.rules.specs.Moves.{cut};
 ghost use Rattle.tool.specs.Checking.{InRange};

@@ -1,7 +1,7 @@
 -- HOW LONG THE FILES ARE: an accepted order file has 10 n - 6 bytes, 4 more with a scale record; a drawing file that is read or drawn has 42 n - 60, a straight one 30 n - 36.
 -- So "no accepted order file is longer than 10,238", and each for n = 1,024 with a scale record is as long, whatever its net.
 -- Nothing is asked of the numbers in a file: they need not be bytes.
-use Rattle.std.specs.Prelude.{ℕ, zero, suc, ◌+◌, ◌-◌, ◌*◌, ◌≤◌, ◌≡◌, refl, Bool, true, false, not, List, [], ◌∷◌, length, ltb, eqb}
+use Rattle.std.specs.Prelude.{ℕ, zero, suc, ◌+◌, ◌-◌, ◌*◌, ◌≤◌, ◌≡◌, refl, Bool, true, false, not, List, [], ◌∷◌, length, ltb, eqb, if◌then◌else◌}
 use Rattle.std.proofs.Common.{ap, sym, ◌∙◌, subst, arith, length-drop, ltb-false, ne_eqb}
 use Rattle.std.proofs.lemmas.List.{length-map}
 use Rattle.std.proofs.lemmas.Bool.{not-false}
@@ -9,7 +9,7 @@ use Rattle.rules.specs.declared.Style.{Style}
 use Rattle.rules.specs.declared.Style.TheVariants.{OneBend, Straight}
 use Rattle.rules.specs.declared.Entry.{Entry}
 use Rattle.rules.specs.declared.Refusal.TheVariants.{FileEnds, WrongMark, OutOfRange, ExtraBytes}
-use Rattle.rules.specs.Basics.{if◌then◌else◌, between}
+use Rattle.rules.specs.Basics.{between}
 use Rattle.rules.specs.Refusals.{good, placed, ◌>>=◌, refuse_if}
 use Rattle.rules.specs.Styles.{drawing_length}
 use Rattle.rules.specs.Points.{Drawing}

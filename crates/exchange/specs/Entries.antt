@@ -1,5 +1,5 @@
 -- The lines of a built drawing give its entries back: those of point p are the lines whose later point is p.
-use Rattle.std.specs.Prelude.{ℕ, zero, suc, pred, ◌+◌, ◌-◌, ◌<◌, ◌≤◌, ◌≡◌, refl, Bool, true, false, List, [], ◌∷◌, ◌++◌, map, length, get_or, eqb, ltb}
+use Rattle.std.specs.Prelude.{ℕ, zero, suc, pred, ◌+◌, ◌-◌, ◌<◌, ◌≤◌, ◌≡◌, refl, Bool, true, false, List, [], ◌∷◌, ◌++◌, map, length, get_or, eqb, ltb, if◌then◌else◌}
 use Rattle.std.proofs.Common.{ap, sym, subst, subst₂, ◌∙◌, append-nil, arith, length-append, eq-eqb, ne_eqb, eqb-true, ltb-true, ltb-false}
 use Rattle.std.proofs.Math.ListN.{get_or-append, get_or-eq_default}
 use Rattle.std.proofs.Math.Seq.{get_or-append_seam}
@@ -8,7 +8,7 @@ use Rattle.rules.specs.declared.Line.{Line}
 use Rattle.rules.specs.declared.Style.{Style}
 use Rattle.rules.specs.declared.Entry.{Entry}
 use Rattle.rules.specs.declared.Bend.{Bend}
-use Rattle.rules.specs.Basics.{if◌then◌else◌, keep, snoc}
+use Rattle.rules.specs.Basics.{keep, snoc}
 use Rattle.rules.specs.Refusals.{good}
 use Rattle.rules.specs.Entries.{word_of}
 use Rattle.rules.proofs.Lengths.{map_append}

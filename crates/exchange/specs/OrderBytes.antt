@@ -1,11 +1,10 @@
 -- The order file that a finished drawing writes is a list of bytes.
-use Rattle.std.specs.Prelude.{ℕ, suc, ◌+◌, ◌*◌, ◌<◌, ◌≤◌, Bool, true, false, List, [], ◌∷◌, map, length, eqb}
+use Rattle.std.specs.Prelude.{ℕ, suc, ◌+◌, ◌*◌, ◌<◌, ◌≤◌, Bool, true, false, List, [], ◌∷◌, map, length, eqb, if◌then◌else◌}
 use Rattle.std.proofs.Common.{arith}
 use Rattle.std.proofs.lemmas.List.{length-map}
 use Rattle.rules.specs.declared.Kind.{Kind}
 use Rattle.rules.specs.declared.Kind.TheVariants.{Guide, Plain, Feeder}
 use Rattle.rules.specs.declared.Entry.{Entry}
-use Rattle.rules.specs.Basics.{if◌then◌else◌}
 use Rattle.rules.specs.Entries.{point_limit, top_bits, word_of}
 use Rattle.rules.specs.Points.{Drawing}
 use Rattle.rules.specs.Records.{written, scale_shape, order_head, order_mark, scale_mark, entries_mark, end_mark}

@@ -1,13 +1,13 @@
 -- An accepted order file is the one that its drawing writes.
 use Prim.Native.Nat.{ℕ, zero, suc, ◌-◌, ◌≤◌}
-use Rattle.std.specs.Prelude.{◌≡◌, refl, Bool, true, false, not, List, [], ◌∷◌, ◌++◌, map, length, ltb}
+use Rattle.std.specs.Prelude.{◌≡◌, refl, Bool, true, false, not, List, [], ◌∷◌, ◌++◌, map, length, ltb, if◌then◌else◌}
 use Rattle.std.proofs.Common.{ap, ap₂, sym, ◌∙◌, subst, append_assoc, append-nil, arith, ltb-false, ne_eqb}
 use Rattle.std.proofs.Math.Path.{subst₂}
 use Rattle.std.proofs.lemmas.Bool.{not-false}
 use Rattle.rules.specs.declared.Style.{Style}
 use Rattle.rules.specs.declared.Entry.{Entry}
 use Rattle.rules.specs.declared.Refusal.TheVariants.{OutOfRange, BothMarks, OtherStart, ExtraBytes}
-use Rattle.rules.specs.Basics.{if◌then◌else◌, between, snoc, any_of}
+use Rattle.rules.specs.Basics.{between, snoc, any_of}
 use Rattle.rules.specs.Same.{same_is}
 use Rattle.rules.specs.Refusals.{Result, good, ◌>>=◌, ◌>>◌, refuse_if, placed}
 use Rattle.rules.specs.Entries.{read_entry, word_of, is_both, points_read, given_in}

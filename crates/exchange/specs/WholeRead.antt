@@ -1,11 +1,11 @@
 -- The drawing of an accepted order file is whole, whatever numbers its list holds.
-use Rattle.std.specs.Prelude.{ℕ, zero, suc, ◌-◌, ◌≤◌, ◌≡◌, refl, Bool, true, false, not, List, [], ◌∷◌, ◌++◌, length}
+use Rattle.std.specs.Prelude.{ℕ, zero, suc, ◌-◌, ◌≤◌, ◌≡◌, refl, Bool, true, false, not, List, [], ◌∷◌, ◌++◌, length, if◌then◌else◌}
 use Rattle.std.proofs.Common.{ap, sym, subst, subst₂, append_assoc, append-nil, arith}
 use Rattle.std.proofs.lemmas.Bool.{not-false}
 use Rattle.rules.specs.declared.Style.{Style}
 use Rattle.rules.specs.declared.Entry.{Entry}
 use Rattle.rules.specs.declared.Refusal.TheVariants.{OutOfRange}
-use Rattle.rules.specs.Basics.{if◌then◌else◌, between, snoc}
+use Rattle.rules.specs.Basics.{between, snoc}
 use Rattle.rules.specs.Refusals.{good, placed, ◌>>=◌}
 use Rattle.rules.specs.Points.{Drawing}
 use Rattle.rules.specs.Adding.{add_read}

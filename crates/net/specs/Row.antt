@@ -1,9 +1,8 @@
 -- Step 5: which middle port each point inside the run takes, and why it reaches: port i or port i + 1 does, always.
 -- It is said of any net g' that has the amounts of steps 1 to 4 and the middle row's height.
-use Rattle.std.specs.Prelude.{ℕ, suc, ◌+◌, ◌*◌, ◌-◌, ◌/◌, ◌<◌, ◌≤◌, ◌≡◌, refl, Bool, true, false, ltb}
+use Rattle.std.specs.Prelude.{ℕ, suc, ◌+◌, ◌*◌, ◌-◌, ◌/◌, ◌<◌, ◌≤◌, ◌≡◌, refl, Bool, true, false, ltb, if◌then◌else◌}
 use Rattle.std.proofs.Common.{arith, ltb-true, ltb-false}
 use Rattle.std.proofs.Math.Decide.{dec_le}
-use Rattle.rules.specs.Basics.{if◌then◌else◌}
 use Rattle.rules.specs.Adding.{middle_of}
 use Rattle.plane.specs.Apart.{fa, fb}
 use Rattle.plane.specs.Rise.{rise}

@@ -1,8 +1,7 @@
 -- Parts of what C is told as words: which buffer was short, the three words of a refusal, a bend's kind and its port's index.
-use Rattle.std.specs.Prelude.{ℕ, List, [], ◌∷◌, eqb}
+use Rattle.std.specs.Prelude.{ℕ, List, [], ◌∷◌, eqb, if◌then◌else◌}
 use Rattle.rules.specs.declared.Bend.{Bend}
 use Rattle.rules.specs.declared.Bend.TheVariants.{Left, Right, Middle, NoBend}
-use Rattle.rules.specs.Basics.{if◌then◌else◌}
 use Rattle.rules.specs.declared.Refusal.{Refusal}
 use Rattle.rules.specs.declared.Refusal.TheVariants.{OutputShort}
 use Rattle.rules.specs.Refusals.{number}

@@ -1,8 +1,7 @@
 -- What an import answers, and what its two buffers hold afterwards.
-use Rattle.std.specs.Prelude.{ℕ, ◌<◌, ◌≤◌, ◌≡◌, refl, Bool, true, false, List, length, ltb}
+use Rattle.std.specs.Prelude.{ℕ, ◌<◌, ◌≤◌, ◌≡◌, refl, Bool, true, false, List, length, ltb, if◌then◌else◌}
 use Rattle.std.proofs.Common.{sym, subst, lt-ltb, le-ltb}
 use Rattle.rules.specs.declared.Refusal.{Refusal}
-use Rattle.rules.specs.Basics.{if◌then◌else◌}
 use Rattle.rules.specs.Refusals.{Result, good, refused, told}
 use Rattle.rules.specs.Output.{filled}
 use Rattle.answers.specs.declared.Imported.{Imported}

@@ -1,8 +1,7 @@
 -- The test for chords, over the program's arrays: v stands at pos v on the boundary, from 1, or pos v is 0.
-use Rattle.std.specs.Prelude.{ℕ, zero, suc, ◌+◌, ◌-◌, ◌<◌, ◌≤◌, ◌≡◌, refl, ◌≢◌, ◌⊎◌, List, Bool, true, false, get_or, eqb}
+use Rattle.std.specs.Prelude.{ℕ, zero, suc, ◌+◌, ◌-◌, ◌<◌, ◌≤◌, ◌≡◌, refl, ◌≢◌, ◌⊎◌, List, Bool, true, false, get_or, eqb, if◌then◌else◌}
 use Rattle.std.proofs.Common.{ap, sym, ◌∙◌, inl, inr, arith, add-one, eq-eqb, ne_eqb, eqb-true}
 use Rattle.std.proofs.Math.Decide.{ℕ_discrete}
-use Rattle.rules.specs.Basics.{if◌then◌else◌}
 use Rattle.planar_rules.specs.PlanarCode.{Flat, all}
 use Rattle.planar_sphere.proofs.Check.{all_true, true_all}
 use Rattle.planar_sphere.specs.Flat.{Listed}

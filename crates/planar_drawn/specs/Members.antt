@@ -1,9 +1,9 @@
 -- A number in a list, and the lines of a drawing by the entries of their later points: each line is an entry, each entry a line.
-use Rattle.std.specs.Prelude.{ℕ, zero, suc, ◌<◌, ◌≡◌, refl, Bool, true, false, List, [], ◌∷◌, map, length, get_or, eqb}
+use Rattle.std.specs.Prelude.{ℕ, zero, suc, ◌<◌, ◌≡◌, refl, Bool, true, false, List, [], ◌∷◌, map, length, get_or, eqb, if◌then◌else◌}
 use Rattle.std.proofs.Common.{sym, ◌∙◌, arith, eq-eqb, eqb-true}
 use Rattle.std.proofs.lemmas.List.{length-map}
 use Rattle.rules.specs.declared.Line.{Line}
-use Rattle.rules.specs.Basics.{if◌then◌else◌, keep}
+use Rattle.rules.specs.Basics.{keep}
 use Rattle.rules.specs.Adding.{points_of}
 use Rattle.exchange.specs.Entries.{ends, entry_for, entries_at}
 

@@ -1,6 +1,5 @@
 -- A net in arrays: n vertices and D places, where each list begins, in whose list each place stands, and which vertex it names.
-use Rattle.std.specs.Prelude.{ℕ, ◌+◌, ◌<◌, ◌≤◌, ◌≡◌, List, length, get_or, Bool, true, eqb}
-use Rattle.rules.specs.Basics.{if◌then◌else◌}
+use Rattle.std.specs.Prelude.{ℕ, ◌+◌, ◌<◌, ◌≤◌, ◌≡◌, List, length, get_or, Bool, true, eqb, if◌then◌else◌}
 use Rattle.planar_rules.specs.PlanarCode.{Flat, back, in_both?}
 use Rattle.planar_sphere.specs.Flat.{Listed}
 

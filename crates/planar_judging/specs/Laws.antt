@@ -1,11 +1,10 @@
 -- Laws of the tests, one step at a time.
 use Prim.Native.Nat.{ℕ, zero, suc, ◌+◌, ◌-◌, ◌<◌, ◌≤◌}
-use Rattle.std.specs.Prelude.{◌≡◌, ◌≢◌, List, Bool, true, false, not, ◌&&◌, ◌||◌, length, get_or, set, replicate, eqb, leb}
+use Rattle.std.specs.Prelude.{◌≡◌, ◌≢◌, List, Bool, true, false, not, ◌&&◌, ◌||◌, length, get_or, set, replicate, eqb, leb, if◌then◌else◌}
 use Rattle.std.proofs.Math.Path.{refl, ap}
 use Rattle.std.proofs.Common.{sym, ◌∙◌, inl, inr, arith, add-one, length-set, get_or-set_same, get_or-set_other}
 use Rattle.std.proofs.Math.Decide.{ℕ_discrete, dec_le}
 use borrow.Author.Tests.{eq-eqb, ne_eqb, eqb-true, le-leb, lt-leb}
-use Rattle.rules.specs.Basics.{if◌then◌else◌}
 use Rattle.rules.specs.Bools.{both}
 use Rattle.planar_rules.specs.PlanarCode.{Flat, all, seek, after, place, back, not_self?, not_twice?, in_both?, merge, labels, joined?, counted?, side, faces?, taken?}
 use Rattle.planar_judging.specs.Arrays.{flat_of, Kept, Backs, after_in, Relabelled}

@@ -1,8 +1,7 @@
 -- The boundary without the vertex that comes off: its entries stand there in place of it and the two beside it.
-use Rattle.std.specs.Prelude.{ℕ, ◌+◌, ◌-◌, ◌<◌, ◌≤◌, ◌≡◌, refl, List, ◌++◌, length, get_or, take, drop, set, ltb}
+use Rattle.std.specs.Prelude.{ℕ, ◌+◌, ◌-◌, ◌<◌, ◌≤◌, ◌≡◌, refl, List, ◌++◌, length, get_or, take, drop, set, ltb, if◌then◌else◌}
 use Rattle.std.proofs.Common.{ap, sym, ◌∙◌, arith, zero-add, length-set, length-drop, get_or-set_same, get_or-set_other, get_or-take, length-take-le, ext_get_or, get_or-drop, lt-ltb, le-ltb}
 use Rattle.std.proofs.Math.Decide.{ℕ_discrete, dec_lt}
-use Rattle.rules.specs.Basics.{if◌then◌else◌}
 use Rattle.planar_order.specs.Seqs.{new_length, new_low, new_run, new_high}
 
 -- its x-th vertex: len entries, from ent's place s on, stand in place of three vertices of b, from the a-th on

@@ -1,9 +1,9 @@
 -- THE THEOREM: a file that passes the tests yields an order, and the order is one that the drawing rules take.
 use Prim.Native.Nat.{ℕ, zero, suc, ◌+◌, ◌-◌, ◌*◌, ◌<◌, ◌≤◌}
-use Rattle.std.specs.Prelude.{◌≡◌, refl, ◌≢◌, List, [], ◌∷◌, map, Bool, true, false, length, get_or, eqb}
+use Rattle.std.specs.Prelude.{◌≡◌, refl, ◌≢◌, List, [], ◌∷◌, map, Bool, true, false, length, get_or, eqb, if◌then◌else◌}
 use Rattle.std.proofs.Common.{ap, subst, sym, ◌∙◌, inl, inr, arith, length-append, eq-eqb, eqb-true}
 use Rattle.std.proofs.lemmas.List.{length-map}
-use Rattle.rules.specs.Basics.{if◌then◌else◌, index_of}
+use Rattle.rules.specs.Basics.{index_of}
 use Rattle.rules.specs.Indices.{index_at, index_le}
 use Rattle.rules.specs.Entries.{word_of}
 use Rattle.rules.specs.Records.{written, point_entries, end_shape, entries_mark}

@@ -1,9 +1,9 @@
 -- WISH 4: a net in planar_code, and the order file that it becomes. Vertices count from 0 here: byte b of a list, if it isn't 0, names vertex b - 1.
-use Rattle.std.specs.Prelude.{ℕ, zero, suc, ◌+◌, ◌-◌, ◌*◌, Bool, true, false, not, ◌&&◌, ◌||◌, List, [], ◌∷◌, ◌++◌, map, length, get_or, take, drop, leb, ltb, eqb}
+use Rattle.std.specs.Prelude.{ℕ, zero, suc, ◌+◌, ◌-◌, ◌*◌, Bool, true, false, not, ◌&&◌, ◌||◌, List, [], ◌∷◌, ◌++◌, map, length, get_or, take, drop, leb, ltb, eqb, if◌then◌else◌}
 use Rattle.rules.specs.declared.Entry.{Entry}
 use Rattle.rules.specs.declared.Kind.TheVariants.{Plain}
 use Rattle.rules.specs.declared.Refusal.TheVariants.{BadCode, NoNet, OutputShort}
-use Rattle.rules.specs.Basics.{if◌then◌else◌, between, index_of}
+use Rattle.rules.specs.Basics.{between, index_of}
 use Rattle.rules.specs.Refusals.{Result, good, ◌>>◌, ◌>>=◌, refuse_if}
 use Rattle.rules.specs.Entries.{word_of}
 use Rattle.rules.specs.Records.{written, order_head, point_entries, end_shape}

@@ -1,8 +1,7 @@
 -- Where the faces hang together by lines other than the barred ones, no barred line can be spared.
-use Rattle.std.specs.Prelude.{ℕ, zero, suc, ◌+◌, ◌*◌, ◌<◌, ◌≤◌, ◌≡◌, refl, ◌≢◌, Bool, true, false, not}
+use Rattle.std.specs.Prelude.{ℕ, zero, suc, ◌+◌, ◌*◌, ◌<◌, ◌≤◌, ◌≡◌, refl, ◌≢◌, Bool, true, false, not, if◌then◌else◌}
 use Rattle.std.proofs.Common.{ap, sym, ◌∙◌, inl, inr, arith}
 use Rattle.std.proofs.Math.Decide.{ℕ_discrete}
-use Rattle.rules.specs.Basics.{if◌then◌else◌}
 use Rattle.planar_sphere.specs.Count.{same_bit, bit, count, put, del, put-here, put_else, put_old, put-case, del_else, del-case, count-put, count-del, count-max, count_none, count_all, bool, clash, find}
 use Rattle.planar_sphere.specs.Tree.{tree}
 use Rattle.planar_sphere.specs.Map.{Map, Net, φ, end, rep, is_rep, φ_in, org_φ, rep_in, rep_α, rep_is, rep_inj, along-rep}

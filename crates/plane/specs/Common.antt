@@ -1,10 +1,9 @@
 -- Two pieces have a point in common: weights say so, and the test of crossing gives weights.
-use Rattle.std.specs.Prelude.{ℕ, ◌+◌, ◌*◌, ◌-◌, ◌<◌, ◌≤◌, min, max, ◌≡◌, refl, ◌⊎◌, ◌≢◌, Bool, true, false, not, ◌&&◌, leb}
+use Rattle.std.specs.Prelude.{ℕ, ◌+◌, ◌*◌, ◌-◌, ◌<◌, ◌≤◌, min, max, ◌≡◌, refl, ◌⊎◌, ◌≢◌, Bool, true, false, not, ◌&&◌, leb, if◌then◌else◌}
 use Rattle.std.proofs.Common.{ap, sym, ◌∙◌, inl, inr, true≢false, arith, add-sub_of_le, ltb-false, leb-true}
 use Rattle.std.proofs.Math.Decide.{dec_le, dec_lt, ℕ_discrete}
 use Rattle.std.proofs.lemmas.Bool.{not-true}
 use Rattle.rules.specs.declared.Place.{Place}
-use Rattle.rules.specs.Basics.{if◌then◌else◌}
 use Rattle.rules.specs.Meeting.{cross_plus, cross_minus, left_of, right_of, one_side, one_line, overlap, meet}
 use Rattle.plane.specs.Aligned.{Aligned, aligned_test, test_aligned}
 use Rattle.plane.specs.Ident.{dep_one, dep_x, dep_y}

@@ -1,9 +1,8 @@
 -- The test is exact: pieces that have a point in common by weights meet by the signs of cross products.
-use Rattle.std.specs.Prelude.{ℕ, ◌+◌, ◌*◌, ◌<◌, ◌≤◌, min, max, ◌≡◌, Bool, true, false, not, ◌&&◌}
+use Rattle.std.specs.Prelude.{ℕ, ◌+◌, ◌*◌, ◌<◌, ◌≤◌, min, max, ◌≡◌, Bool, true, false, not, ◌&&◌, if◌then◌else◌}
 use Rattle.std.proofs.Common.{ap, sym, inl, inr, arith, mul-le-mul_left, ltb-true, le-leb}
 use Rattle.std.proofs.Math.Decide.{dec_le}
 use Rattle.rules.specs.declared.Place.{Place}
-use Rattle.rules.specs.Basics.{if◌then◌else◌}
 use Rattle.rules.specs.Meeting.{cross_plus, cross_minus, left_of, right_of, one_side, one_line, overlap, meet}
 use Rattle.rules.specs.Bools.{both, either, is_false}
 use Rattle.plane.specs.Common.{Common, flip}

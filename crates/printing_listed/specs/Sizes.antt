@@ -1,10 +1,10 @@
 -- Every number of a drawing's moves is below 2 ^ 24: places are at most 5,111, the scale is at most 8, and a tool's numbers are at most 80.
-use Rattle.std.specs.Prelude.{ℕ, suc, ◌<◌, ◌≤◌, ◌≡◌, Bool, true, false, ◌&&◌, List, [], ◌∷◌, ◌++◌, length, get_or, eqb}
+use Rattle.std.specs.Prelude.{ℕ, suc, ◌<◌, ◌≤◌, ◌≡◌, Bool, true, false, ◌&&◌, List, [], ◌∷◌, ◌++◌, length, get_or, eqb, if◌then◌else◌}
 use Rattle.std.proofs.Common.{subst, arith}
 use Rattle.rules.specs.declared.Kind.{Kind}
 use Rattle.rules.specs.declared.Kind.TheVariants.{Guide, Plain, Feeder}
 use Rattle.rules.specs.declared.Line.{Line}
-use Rattle.rules.specs.Basics.{if◌then◌else◌, between}
+use Rattle.rules.specs.Basics.{between}
 use Rattle.rules.specs.Bools.{both, in_range}
 use Rattle.rules.specs.Points.{Drawing, line_at}
 use Rattle.rules.specs.Moves.{Tool, Move, travel, cut, plunge, lift, is_tool, without_dwelling, repeated, moves_of, moves_over, all_moves}

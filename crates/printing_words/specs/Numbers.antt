@@ -1,11 +1,11 @@
 -- A word's number, digit by digit, and as an f32 of a tool.
-use Rattle.std.specs.Prelude.{ℕ, ◌+◌, ◌-◌, ◌*◌, ◌≤◌, ◌<◌, ◌≡◌, refl, Bool, true, false, List, leb, length, drop, get_or, Float}
+use Rattle.std.specs.Prelude.{ℕ, ◌+◌, ◌-◌, ◌*◌, ◌≤◌, ◌<◌, ◌≡◌, refl, Bool, true, false, List, leb, length, drop, get_or, Float, if◌then◌else◌}
 use Rattle.std.proofs.Common.{ap, sym, ◌∙◌, true≢false, arith, add-one, drop_of_length-le, drop-cons}
 use Rattle.std.proofs.Math.Bool.{and-false}
 use Rattle.std.proofs.lemmas.Bool.{lt-leb}
 use Rattle.std.specs.Float.{nan, inf, fin}
 use Rattle.std.specs.Float.Ieee.Exact.{HasValue}
-use Rattle.rules.specs.Basics.{if◌then◌else◌, between, all_of}
+use Rattle.rules.specs.Basics.{between, all_of}
 use Rattle.rules.specs.Bools.{both}
 use Rattle.rules.specs.Decimal.{is_digit, value_from}
 use Rattle.rules.specs.Points.{Drawing as Plan}

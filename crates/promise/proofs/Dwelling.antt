@@ -1,6 +1,6 @@
 -- WISH 3, WHICH CUTS ARE LEFT OUT. In a one-bend drawing a line gives five moves each time that it is cut, or four: where its free piece has no length, or where it has no port, as line 1-2. A straight line gives four.
 -- Every word is a definition of `rules`.
-use Rattle.std.specs.Prelude.{ℕ, pred, ◌+◌, ◌≤◌, ◌≡◌, refl, ◌⊎◌, Bool, true, false, not, ◌&&◌, ◌||◌, length, eqb}
+use Rattle.std.specs.Prelude.{ℕ, pred, ◌+◌, ◌≤◌, ◌≡◌, refl, ◌⊎◌, Bool, true, false, not, ◌&&◌, ◌||◌, length, eqb, if◌then◌else◌}
 use Rattle.std.proofs.Common.{ap, ◌∙◌, inl, inr, arith, eq-eqb, ne_eqb, eqb-true}
 use Rattle.rules.specs.declared.Style.{Style}
 use Rattle.rules.specs.declared.Style.TheVariants.{OneBend, Straight}
@@ -8,7 +8,6 @@ use Rattle.rules.specs.declared.Line.{Line}
 use Rattle.rules.specs.declared.Place.{Place}
 use Rattle.rules.specs.declared.Bend.{Bend}
 use Rattle.rules.specs.declared.Bend.TheVariants.{Left, Right, Middle, NoBend}
-use Rattle.rules.specs.Basics.{if◌then◌else◌}
 use Rattle.rules.specs.Bools.{both, is_false}
 use Rattle.rules.specs.Points.{Drawing, x_of, y_of, place_of, line_at}
 use Rattle.rules.specs.Ports.{bend_place, has_port, free_piece}

@@ -1,5 +1,5 @@
 -- DEMAND 3, clause 4, of both drawings: two different lines have no point in common but the place of a point where both end.
-use Rattle.std.specs.Prelude.{ℕ, pred, ◌<◌, ◌≡◌, refl, ◌≢◌, ◌⊎◌, Bool, true, false, not, ◌||◌, [], ◌∷◌, eqb}
+use Rattle.std.specs.Prelude.{ℕ, pred, ◌<◌, ◌≡◌, refl, ◌≢◌, ◌⊎◌, Bool, true, false, not, ◌||◌, [], ◌∷◌, eqb, if◌then◌else◌}
 use Rattle.std.proofs.Common.{ap, subst₂, inl, inr, arith, eqb-true}
 use Rattle.std.proofs.lemmas.Bool.{eqb-false}
 use Rattle.rules.specs.declared.Style.{Style}
@@ -9,7 +9,7 @@ use Rattle.rules.specs.declared.Place.{Place}
 use Rattle.rules.specs.declared.Line.{Line}
 use Rattle.rules.specs.declared.Bend.{Bend}
 use Rattle.rules.specs.declared.Bend.TheVariants.{Left, Right, Middle, NoBend}
-use Rattle.rules.specs.Basics.{if◌then◌else◌, keep, all_of, any_of}
+use Rattle.rules.specs.Basics.{keep, all_of, any_of}
 use Rattle.rules.specs.Points.{Drawing, place_of, line_at}
 use Rattle.rules.specs.Ports.{Piece, pieces}
 use Rattle.rules.specs.Meeting.{meet, meet_only_at}

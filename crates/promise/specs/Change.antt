@@ -1,7 +1,6 @@
 -- Step 5 read by index: the inner points of a run, and the first of them that its own port doesn't reach.
-use Rattle.std.specs.Prelude.{ℕ, zero, suc, ◌+◌, ◌*◌, ◌-◌, ◌<◌, ◌≤◌, ◌≡◌, refl, Bool, true, false, List, [], ◌∷◌, length, get_or, leb, ltb}
+use Rattle.std.specs.Prelude.{ℕ, zero, suc, ◌+◌, ◌*◌, ◌-◌, ◌<◌, ◌≤◌, ◌≡◌, refl, Bool, true, false, List, [], ◌∷◌, length, get_or, leb, ltb, if◌then◌else◌}
 use Rattle.std.proofs.Common.{sym, ◌∙◌, true≢false, le_of_suc-le-suc, not-suc-le-zero, add-zero, arith, ltb-true, ltb-false, leb-true, le-leb}
-use Rattle.rules.specs.Basics.{if◌then◌else◌}
 use Rattle.rules.specs.Points.{Drawing, x_of, y_of}
 use Rattle.rules.specs.Adding.{all_but_last, inner, change, reaches, middle_of}
 use Rattle.rules.specs.Bools.{both}

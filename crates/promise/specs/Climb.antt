@@ -1,7 +1,6 @@
 -- What covering does to climbing: whoever climbed to a covered point now climbs to the new one. Points are suc p.
-use Rattle.std.specs.Prelude.{ℕ, zero, suc, ◌≡◌, refl, Bool, true, false, List, get_or}
+use Rattle.std.specs.Prelude.{ℕ, zero, suc, ◌≡◌, refl, Bool, true, false, List, get_or, if◌then◌else◌}
 use Rattle.std.proofs.Common.{sym, ◌∙◌, arith}
-use Rattle.rules.specs.Basics.{if◌then◌else◌}
 use Rattle.rules.specs.Moving.{climb}
 
 -- o' are the owners o after `suc new` took the points of a test, which nobody owned

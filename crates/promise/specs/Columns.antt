@@ -1,5 +1,5 @@
 -- Columns after an accepted call: the old ones joined, and the new point's own.
-use Rattle.std.specs.Prelude.{ℕ, zero, suc, pred, ◌+◌, ◌<◌, ◌≤◌, ◌≡◌, Bool, true, false, List, [], ◌∷◌, ◌++◌, length, get_or, take, drop}
+use Rattle.std.specs.Prelude.{ℕ, zero, suc, pred, ◌+◌, ◌<◌, ◌≤◌, ◌≡◌, Bool, true, false, List, [], ◌∷◌, ◌++◌, length, get_or, take, drop, if◌then◌else◌}
 use Rattle.std.proofs.Math.Path.{refl}
 use Rattle.std.proofs.Common.{ap, sym, ◌∙◌, le_of_suc-le-suc, not-suc-le-zero, add-zero, add-suc, suc-add, arith, length-append, lt-ltb}
 use Rattle.std.proofs.Math.Decide.{dec_lt, ℕ_discrete}
@@ -7,7 +7,7 @@ use Rattle.std.proofs.Math.ListN.{get_or-append, get_or-eq_default}
 use Rattle.std.proofs.lemmas.List.{get_or_at}
 use Rattle.net.specs.Adds.{join}
 use Rattle.rules.specs.declared.Entry.{Entry}
-use Rattle.rules.specs.Basics.{if◌then◌else◌, index_of, snoc}
+use Rattle.rules.specs.Basics.{index_of, snoc}
 use Rattle.rules.specs.Points.{Drawing, w, m}
 use Rattle.rules.specs.Moving.{climb, column}
 use Rattle.rules.specs.Adding.{inside, owned}

@@ -1,10 +1,9 @@
 -- Steps 3 and 4 of both drawings in plain numbers: wl is at (x, y) and wr, before step 3, at (z, t).
-use Rattle.std.specs.Prelude.{ℕ, ◌+◌, ◌-◌, ◌/◌, ◌%◌, ◌<◌, ◌≤◌, ◌≡◌, refl, Bool, true, false, eqb}
+use Rattle.std.specs.Prelude.{ℕ, ◌+◌, ◌-◌, ◌/◌, ◌%◌, ◌<◌, ◌≤◌, ◌≡◌, refl, Bool, true, false, eqb, if◌then◌else◌}
 use Rattle.std.proofs.Common.{arith, eqb-true}
 use Rattle.std.proofs.lemmas.Bool.{eqb-false}
 use Rattle.rules.specs.declared.Style.{Style}
 use Rattle.rules.specs.declared.Style.TheVariants.{OneBend, Straight}
-use Rattle.rules.specs.Basics.{if◌then◌else◌}
 use Rattle.rules.specs.Styles.{amount, inset, evening}
 use Rattle.net.specs.Parity.{steps}
 

@@ -1,12 +1,12 @@
 -- What an accepted call keeps: every list has one number for each point, points climb to the boundary, and owners stay or are the new point.
-use Rattle.std.specs.Prelude.{ℕ, suc, pred, ◌<◌, ◌≤◌, ◌≡◌, ◌≢◌, Bool, true, false, List, length, get_or}
+use Rattle.std.specs.Prelude.{ℕ, suc, pred, ◌<◌, ◌≤◌, ◌≡◌, ◌≢◌, Bool, true, false, List, length, get_or, if◌then◌else◌}
 use Rattle.std.proofs.Math.Path.{refl}
 use Rattle.std.proofs.Common.{ap, sym, ◌∙◌, arith}
 use Rattle.std.proofs.Math.Decide.{dec_lt}
 use Rattle.net.specs.Side.{rt, lf}
 use Rattle.net.specs.Adds.{Owning}
 use Rattle.rules.specs.declared.Entry.{Entry}
-use Rattle.rules.specs.Basics.{if◌then◌else◌, index_of, snoc, alter}
+use Rattle.rules.specs.Basics.{index_of, snoc, alter}
 use Rattle.rules.specs.Styles.{taken}
 use Rattle.rules.specs.Points.{Drawing, owner_of, w, m}
 use Rattle.rules.proofs.Lengths.{length-snoc}

@@ -1,7 +1,6 @@
 -- What steps 1 to 3 do to the places: every point moves right by its column's amounts, and no height changes.
-use Rattle.std.specs.Prelude.{ℕ, zero, suc, ◌+◌, ◌<◌, ◌≡◌, refl, Bool, true, false, cond, List, [], ◌∷◌, length, get_or, leb}
+use Rattle.std.specs.Prelude.{ℕ, zero, suc, ◌+◌, ◌<◌, ◌≡◌, refl, Bool, true, false, cond, List, [], ◌∷◌, length, get_or, leb, if◌then◌else◌}
 use Rattle.std.proofs.Common.{ap, ◌∙◌, le_of_suc-le-suc, not-suc-le-zero, suc-add, add-suc, add-zero, add-one, arith}
-use Rattle.rules.specs.Basics.{if◌then◌else◌}
 use Rattle.rules.specs.Points.{Drawing, x_of}
 use Rattle.rules.specs.Moving.{column, moved_xs, shift}
 use Rattle.rules.specs.Adding.{s1, s2, s3, step1, step2, spread}

@@ -1,6 +1,6 @@
 -- 25 never comes: over every run of a sound drawing, each inner point is reached by its own port or the next one.
 use Prim.Native.Nat.{ℕ, suc, ◌+◌, ◌-◌, ◌<◌}
-use Rattle.std.specs.Prelude.{◌≡◌, Bool, true, false, ◌||◌, List, [], ◌∷◌, length, get_or, ltb}
+use Rattle.std.specs.Prelude.{◌≡◌, Bool, true, false, ◌||◌, List, [], ◌∷◌, length, get_or, ltb, if◌then◌else◌}
 use Rattle.std.proofs.Math.Path.{refl}
 use Rattle.std.proofs.Common.{subst, add-zero}
 use Rattle.std.proofs.Math.Bool.{or-true}
@@ -8,7 +8,6 @@ use native.Mathlib.Omega.{arith}
 use Rattle.rules.specs.declared.Entry.{Entry}
 use Rattle.rules.specs.declared.Style.{Style}
 use Rattle.rules.specs.declared.Style.TheVariants.{OneBend, Straight}
-use Rattle.rules.specs.Basics.{if◌then◌else◌}
 use Rattle.rules.specs.Styles.{reach_passes}
 use Rattle.rules.specs.Points.{Drawing, x_of, y_of, w}
 use Rattle.rules.specs.Adding.{inner, spread, new_x, new_y, row_height, reaches, middle_of, all_reach, points_of}

@@ -1,8 +1,7 @@
 -- A point's group of line records, and its entries as 16-bit numbers. An earlier point of the limit or more has no such form: 0 stands for it, and a call refuses both alike.
-use Rattle.std.specs.Prelude.{ℕ, ◌+◌, ◌-◌, ◌*◌, ◌≤◌, ◌≡◌, List, map, take, ltb}
+use Rattle.std.specs.Prelude.{ℕ, ◌+◌, ◌-◌, ◌*◌, ◌≤◌, ◌≡◌, List, map, take, ltb, if◌then◌else◌}
 use Rattle.rules.specs.declared.Style.{Style}
 use Rattle.rules.specs.declared.Entry.{Entry}
-use Rattle.rules.specs.Basics.{if◌then◌else◌}
 use Rattle.rules.specs.Entries.{word_of, point_limit}
 use Rattle.rules.specs.DrawingFile.{group, behind}
 use Rattle.rules.specs.Records.{line_size}

@@ -1,5 +1,5 @@
 -- The groups of points 1 to 3 in a drawing file, by the first lines.
-use Rattle.std.specs.Prelude.{ℕ, ◌≡◌, Bool, not, List, [], ◌∷◌}
+use Rattle.std.specs.Prelude.{ℕ, ◌≡◌, Bool, not, List, [], ◌∷◌, if◌then◌else◌}
 use Rattle.std.proofs.Math.Path.{refl}
 use Rattle.std.proofs.Common.{◌∙◌, arith}
 use Rattle.std.proofs.Math.Bool.{true, false}
@@ -7,7 +7,7 @@ use Rattle.std.proofs.Math.Dec.{eqb}
 use borrow.Author.Tests.{eq-eqb, ne_eqb, eqb-true}
 use Rattle.rules.specs.declared.Style.{Style}
 use Rattle.rules.specs.declared.Refusal.TheVariants.{OtherStart}
-use Rattle.rules.specs.Basics.{if◌then◌else◌, same}
+use Rattle.rules.specs.Basics.{same}
 use Rattle.rules.specs.Refusals.{Result, good, refused, ◌>>◌, refuse_if}
 use Rattle.rules.specs.Adding.{points_of}
 use Rattle.rules.specs.Records.{Found}

@@ -1,5 +1,5 @@
 -- "Adding a point", with the order of tests that "Refused because of the state" fixes.
-use Rattle.std.specs.Prelude.{ℕ, suc, ◌+◌, ◌-◌, ◌*◌, ◌/◌, Bool, true, not, ◌&&◌, ◌||◌, length, take, drop, leb, ltb, eqb}
+use Rattle.std.specs.Prelude.{ℕ, suc, ◌+◌, ◌-◌, ◌*◌, ◌/◌, Bool, true, not, ◌&&◌, ◌||◌, length, take, drop, leb, ltb, eqb, if◌then◌else◌}
 use mathlib.Core.List.{List, [], ◌∷◌, ◌++◌, tail, map}
 use Rattle.rules.specs.declared.Line.{Line}
 use Rattle.rules.specs.declared.Entry.{Entry}
@@ -8,7 +8,7 @@ use Rattle.rules.specs.declared.Reading.TheVariants.{Given}
 use Rattle.rules.specs.declared.Bend.{Bend}
 use Rattle.rules.specs.declared.Bend.TheVariants.{Left, Right, Middle}
 use Rattle.rules.specs.declared.Refusal.TheVariants.{Finished, FewEntries, BothMarks, NotPlaced, Covered, NoRun, NotWhole, NoReach}
-use Rattle.rules.specs.Basics.{if◌then◌else◌, alter, elem, snoc, head_of, index_of}
+use Rattle.rules.specs.Basics.{alter, elem, snoc, head_of, index_of}
 use Rattle.rules.specs.Refusals.{Result, good, refused, ◌>>◌, refuse_if}
 use Rattle.rules.specs.Entries.{read_entry, is_both, point_read, points_read, given_in}
 use Rattle.rules.specs.Styles.{taken, bent, amount, inset, evening, reach_passes}

@@ -1,10 +1,5 @@
 -- Words that all the definitions use; nothing of document 01 yet.
-use Rattle.std.specs.Prelude.{Bool, true, false, ◌&&◌, ◌||◌, List, [], ◌∷◌, ◌++◌, ℕ, zero, suc, pred, get_or, leb, eqb}
-
-infix 5 if◌then◌else◌
-abbrev pub if◌then◌else◌ : {A : Type 0} → Bool → A → A → A
-if true then a else b = a
-if false then a else b = b
+use Rattle.std.specs.Prelude.{if◌then◌else◌, Bool, true, false, ◌&&◌, ◌||◌, List, [], ◌∷◌, ◌++◌, ℕ, zero, suc, pred, get_or, leb, eqb}
 
 -- v lies from a to b
 abbrev pub between : ℕ → ℕ → ℕ → Bool

@@ -1,6 +1,6 @@
 -- A number in decimal digits, as the programs print it: most significant digit first, no zero in front, in ASCII.
-use Rattle.std.specs.Prelude.{ℕ, zero, suc, ◌+◌, ◌-◌, ◌*◌, ◌/◌, ◌%◌, Bool, List, [], ◌∷◌, ltb}
-use Rattle.rules.specs.Basics.{if◌then◌else◌, between, snoc}
+use Rattle.std.specs.Prelude.{ℕ, zero, suc, ◌+◌, ◌-◌, ◌*◌, ◌/◌, ◌%◌, Bool, List, [], ◌∷◌, ltb, if◌then◌else◌}
+use Rattle.rules.specs.Basics.{between, snoc}
 
 -- the ASCII code of a digit
 abbrev pub digit : ℕ → ℕ

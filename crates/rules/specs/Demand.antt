@@ -1,8 +1,8 @@
 -- "What demand 3 means": the words of the promise. Differences are compared as sums.
-use Rattle.std.specs.Prelude.{ℕ, ◌+◌, ◌-◌, ◌*◌, Bool, not, ◌&&◌, ◌||◌, List, [], ◌∷◌, length, leb, ltb, eqb}
+use Rattle.std.specs.Prelude.{ℕ, ◌+◌, ◌-◌, ◌*◌, Bool, not, ◌&&◌, ◌||◌, List, [], ◌∷◌, length, leb, ltb, eqb, if◌then◌else◌}
 use Rattle.rules.specs.declared.Line.{Line}
 use Rattle.rules.specs.declared.Place.{Place}
-use Rattle.rules.specs.Basics.{if◌then◌else◌, keep, all_of, any_of}
+use Rattle.rules.specs.Basics.{keep, all_of, any_of}
 use Rattle.rules.specs.Points.{Drawing, place_of, W}
 use Rattle.rules.specs.Ports.{bend_place, has_port, port_owner, Piece, free_piece, pieces}
 use Rattle.rules.specs.Meeting.{cross_plus, cross_minus, meet, same_place, meet_only_at}

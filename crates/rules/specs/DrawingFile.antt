@@ -1,5 +1,5 @@
 -- "Drawing file, finished drawings only": 44 48 or 44 53, n, s, width, height; points; lines; 45 4E.
-use Rattle.std.specs.Prelude.{ℕ, zero, suc, pred, ◌-◌, ◌*◌, max, not, ◌&&◌, List, [], ◌∷◌, ◌++◌, get_or, eqb, ltb}
+use Rattle.std.specs.Prelude.{ℕ, zero, suc, pred, ◌-◌, ◌*◌, max, not, ◌&&◌, List, [], ◌∷◌, ◌++◌, get_or, eqb, ltb, if◌then◌else◌}
 use Rattle.rules.specs.declared.Style.{Style}
 use Rattle.rules.specs.declared.Style.TheVariants.{OneBend}
 use Rattle.rules.specs.declared.Kind.{Kind}
@@ -8,7 +8,7 @@ use Rattle.rules.specs.declared.Line.{Line}
 use Rattle.rules.specs.declared.Place.{Place}
 use Rattle.rules.specs.declared.Entry.{Entry}
 use Rattle.rules.specs.declared.Refusal.TheVariants.{OutOfRange, OtherDrawing, Unfinished}
-use Rattle.rules.specs.Basics.{if◌then◌else◌, between}
+use Rattle.rules.specs.Basics.{between}
 use Rattle.rules.specs.Refusals.{Result, good, refused, ◌>>◌, ◌>>=◌, refuse_if, placed}
 use Rattle.rules.specs.Styles.{line_numbers, drawing_length, of_bend}
 use Rattle.rules.specs.Points.{Drawing, W, fewest_points, most_points}

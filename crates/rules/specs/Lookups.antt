@@ -1,8 +1,8 @@
 -- "Look-ups give, in grid units, a point's place, a line's ends, bend and cut flag" (its kind now), "and some cut line ending at a given point"; 23 where there is no such point or line.
-use Rattle.std.specs.Prelude.{ℕ, ◌<◌, ◌≡◌, Bool, true, false, not, ◌&&◌, length, ltb}
+use Rattle.std.specs.Prelude.{ℕ, ◌<◌, ◌≡◌, Bool, true, false, not, ◌&&◌, length, ltb, if◌then◌else◌}
 use Rattle.rules.specs.declared.Place.{Place}
 use Rattle.rules.specs.declared.Refusal.TheVariants.{NoSuch}
-use Rattle.rules.specs.Basics.{if◌then◌else◌, between, lowest}
+use Rattle.rules.specs.Basics.{between, lowest}
 use Rattle.rules.specs.Refusals.{Result, good, Told, gives, refused_with, ◌>>◌, refuse_if}
 use Rattle.rules.specs.Entries.{is_cut}
 use Rattle.rules.specs.Styles.{LineSeen, seen}

@@ -1,7 +1,6 @@
 -- "Two pieces meet if they have a point of the real plane in common, decided by the signs of whole-number cross products and, on one straight line, by overlap."
-use Rattle.std.specs.Prelude.{ℕ, ◌+◌, ◌*◌, min, max, Bool, not, ◌&&◌, ◌||◌, leb, ltb, eqb}
+use Rattle.std.specs.Prelude.{ℕ, ◌+◌, ◌*◌, min, max, Bool, not, ◌&&◌, ◌||◌, leb, ltb, eqb, if◌then◌else◌}
 use Rattle.rules.specs.declared.Place.{Place}
-use Rattle.rules.specs.Basics.{if◌then◌else◌}
 
 -- The cross product of q - p and r - p is cross_plus - cross_minus.
 unfoldable pub cross_plus : Place → Place → Place → ℕ

@@ -1,6 +1,6 @@
 -- "To move a boundary point is to move all it owns, and what those own." Nothing here knows by how much the rules move.
-use Rattle.std.specs.Prelude.{ℕ, zero, suc, ◌+◌, List, [], ◌∷◌, leb}
-use Rattle.rules.specs.Basics.{if◌then◌else◌, nth, index_of}
+use Rattle.std.specs.Prelude.{ℕ, zero, suc, ◌+◌, List, [], ◌∷◌, leb, if◌then◌else◌}
+use Rattle.rules.specs.Basics.{nth, index_of}
 use Rattle.rules.specs.Points.{Drawing}
 
 -- the boundary point that owns p through owners, at most `steps` owners up; p itself where nobody owns it

@@ -1,11 +1,10 @@
 -- No two refusals have one number, so what is said in numbers says which answer it is.
-use Rattle.std.specs.Prelude.{ℕ, ◌≡◌, refl, eqb}
+use Rattle.std.specs.Prelude.{ℕ, ◌≡◌, refl, eqb, if◌then◌else◌}
 use Rattle.std.proofs.Common.{ap, sym, ◌∙◌, arith}
 use Rattle.rules.specs.declared.Refusal.{Refusal}
 use Rattle.rules.specs.declared.Refusal.TheVariants.{FileEnds, WrongMark, OutOfRange, OtherStart, FewEntries, NotPlaced, Covered, NoRun, NotWhole, ExtraBytes, OtherDrawing, BadTool, BothMarks, BadCode, NoNet, Finished, Unfinished, NoSuch, OutputShort, NoReach}
 use Rattle.rules.specs.declared.Answer.{Answer}
 use Rattle.rules.specs.declared.Answer.TheVariants.{Accepted, Refused}
-use Rattle.rules.specs.Basics.{if◌then◌else◌}
 use Rattle.rules.specs.Refusals.{number, Result, good, refused, answer, Told, gives, refused_with, told, told_answer, ◌>>◌}
 
 -- the refusal that has a number

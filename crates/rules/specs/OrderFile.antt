@@ -1,5 +1,5 @@
 -- "Order file": 48 44 and n; optionally a scale; n point records; 45 4E.
-use Rattle.std.specs.Prelude.{ℕ, zero, suc, ◌-◌, ◌*◌, not, List, [], ◌∷◌, ◌++◌, map, get_or, eqb}
+use Rattle.std.specs.Prelude.{ℕ, zero, suc, ◌-◌, ◌*◌, not, List, [], ◌∷◌, ◌++◌, map, get_or, eqb, if◌then◌else◌}
 use Rattle.rules.specs.declared.Style.{Style}
 use Rattle.rules.specs.declared.Kind.{Kind}
 use Rattle.rules.specs.declared.Kind.TheVariants.{Plain}
@@ -7,7 +7,7 @@ use Rattle.rules.specs.declared.Line.{Line}
 use Rattle.rules.specs.declared.Entry.{Entry}
 use Rattle.rules.specs.declared.Reading.{Reading}
 use Rattle.rules.specs.declared.Refusal.TheVariants.{OutOfRange, BothMarks, OtherStart}
-use Rattle.rules.specs.Basics.{if◌then◌else◌, between, same, keep, any_of}
+use Rattle.rules.specs.Basics.{between, same, keep, any_of}
 use Rattle.rules.specs.Refusals.{Result, good, ◌>>◌, ◌>>=◌, refuse_if, placed}
 use Rattle.rules.specs.Entries.{read_entry, word_of, is_both, points_read, given_in}
 use Rattle.rules.specs.Points.{Drawing, start, fewest_points, most_points}

@@ -1,5 +1,5 @@
 -- "Points, boundary, owners": the drawing as the rules see it, and opening.
-use Rattle.std.specs.Prelude.{ℕ, List, [], ◌∷◌, length, get_or}
+use Rattle.std.specs.Prelude.{ℕ, List, [], ◌∷◌, length, get_or, if◌then◌else◌}
 use Rattle.rules.specs.declared.Style.{Style}
 use Rattle.rules.specs.declared.Kind.{Kind}
 use Rattle.rules.specs.declared.Kind.TheVariants.{Guide, Plain}
@@ -7,7 +7,7 @@ use Rattle.rules.specs.declared.Line.{Line}
 use Rattle.rules.specs.declared.Place.{Place}
 use Rattle.rules.specs.declared.Bend.TheVariants.{Left, Right, NoBend}
 use Rattle.rules.specs.declared.Refusal.TheVariants.{OutOfRange}
-use Rattle.rules.specs.Basics.{if◌then◌else◌, nth, between}
+use Rattle.rules.specs.Basics.{nth, between}
 use Rattle.rules.specs.Refusals.{Result, good, refused}
 use Rattle.rules.specs.Styles.{second_x, third_x, third_y, taken, bent}
 

@@ -1,10 +1,9 @@
 -- "Ports".
-use Rattle.std.specs.Prelude.{ℕ, ◌+◌, ◌-◌, Bool, true, false, List, [], ◌∷◌}
+use Rattle.std.specs.Prelude.{ℕ, ◌+◌, ◌-◌, Bool, true, false, List, [], ◌∷◌, if◌then◌else◌}
 use Rattle.rules.specs.declared.Line.{Line}
 use Rattle.rules.specs.declared.Place.{Place}
 use Rattle.rules.specs.declared.Bend.{Bend}
 use Rattle.rules.specs.declared.Bend.TheVariants.{Left, Right, Middle, NoBend}
-use Rattle.rules.specs.Basics.{if◌then◌else◌}
 use Rattle.rules.specs.Points.{Drawing, at, x_of, y_of, dl_of, dr_of, h_of, place_of}
 
 -- "Right port j (1 to dr) of a point (x,y) is (x + dr + 1, y + j), with the dr of now."

@@ -1,12 +1,11 @@
 -- THE TWO DRAWINGS: document 01's, whose lines bend once, and the straight one of document 02, wish 2. All in which they differ is here; the rest is one text for both.
-use Rattle.std.specs.Prelude.{ℕ, suc, ◌-◌, ◌*◌, ◌%◌, Bool, true, List, [], eqb}
+use Rattle.std.specs.Prelude.{ℕ, suc, ◌-◌, ◌*◌, ◌%◌, Bool, true, List, [], eqb, if◌then◌else◌}
 use Rattle.rules.specs.declared.Style.{Style}
 use Rattle.rules.specs.declared.Style.TheVariants.{OneBend, Straight}
 use Rattle.rules.specs.declared.Line.{Line}
 use Rattle.rules.specs.declared.Place.{Place}
 use Rattle.rules.specs.declared.Bend.{Bend}
 use Rattle.rules.specs.declared.Bend.TheVariants.{NoBend}
-use Rattle.rules.specs.Basics.{if◌then◌else◌}
 
 -- "Opening places points 1, 2, 3 at (0,0), (6,0), (3,2)"; "Points 1, 2, 3 start at (0,0), (2,0), (1,1)": the x of point 2, the x and the y of point 3
 abbrev pub second_x : Style → ℕ

@@ -1,4 +1,5 @@
 -- One turn of filling, and the numbers that are filled in.
+use Rattle.std.specs.Prelude.{if◌then◌else◌}
 use Prim.Native.Nat.{ℕ, suc, ◌+◌, ◌<◌}
 use mathlib.Core.Path.{◌≡◌, refl}
 use mathlib.Core.Bool.{Bool, true, false}
@@ -8,7 +9,6 @@ use native.Mathlib.Omega.{arith}
 use lib.ListN.{get_or, set}
 use lib.Dec.{eqb, ltb}
 use Rattle.rules.specs.declared.Bend.TheVariants.{Left, Right, Middle}
-use Rattle.rules.specs.Basics.{if◌then◌else◌}
 use Rattle.rules.specs.Adding.{new_bend}
 use Rattle.store_links.specs.Codes.{right_port, left_port, bend_code}
 use Rattle.store_links.specs.Arrays.{Arrays}

@@ -1,10 +1,9 @@
 -- Step 5 by distances: a middle port of the new point reaches an inner point in the drawing exactly where the distances from wl say so.
-use Rattle.std.specs.Prelude.{ℕ, suc, ◌+◌, ◌-◌, ◌*◌, ◌/◌, ◌<◌, ◌≤◌, ◌≡◌, refl, Bool, true, false, not, ◌&&◌, ◌||◌, List, [], ◌∷◌, map, length, get_or, leb}
+use Rattle.std.specs.Prelude.{ℕ, suc, ◌+◌, ◌-◌, ◌*◌, ◌/◌, ◌<◌, ◌≤◌, ◌≡◌, refl, Bool, true, false, not, ◌&&◌, ◌||◌, List, [], ◌∷◌, map, length, get_or, leb, if◌then◌else◌}
 use Rattle.std.proofs.Common.{sym, ap₂, ◌∙◌, subst, arith, leb-true, leb-false, le-leb}
 use Rattle.std.proofs.Math.Path.{ap}
 use Rattle.std.proofs.lemmas.Bool.{lt-leb}
 use Rattle.rules.specs.declared.Refusal.TheVariants.{NoReach}
-use Rattle.rules.specs.Basics.{if◌then◌else◌}
 use Rattle.rules.specs.Styles.{reach_passes}
 use Rattle.rules.specs.Refusals.{refuse_if}
 use Rattle.rules.specs.Results.{then_same}

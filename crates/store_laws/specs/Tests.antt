@@ -1,5 +1,5 @@
 -- The tests before 25 (21, 5, 13, 6, 7, 8, 9) on owners and links are those of the rules, and what the entries of a call that passes them are known to be.
-use Rattle.std.specs.Prelude.{ℕ, zero, suc, pred, ◌+◌, ◌<◌, ◌≤◌, ◌≡◌, refl, Bool, true, false, ◌&&◌, ◌||◌, List, [], ◌∷◌, map, length, drop, leb, ltb, eqb}
+use Rattle.std.specs.Prelude.{ℕ, zero, suc, pred, ◌+◌, ◌<◌, ◌≤◌, ◌≡◌, refl, Bool, true, false, ◌&&◌, ◌||◌, List, [], ◌∷◌, map, length, drop, leb, ltb, eqb, if◌then◌else◌}
 use Rattle.std.proofs.Math.Path.{sym}
 use Rattle.std.proofs.Common.{ap, ap₂, ◌∙◌, arith, drop_of_length-le, drop-cons, ltb-true, ltb-false, eqb-true, lt-ltb, eq-eqb, ne_eqb}
 use Rattle.std.proofs.Math.Bool.{not}
@@ -7,7 +7,7 @@ use Rattle.std.proofs.Math.Decide.{dec_lt}
 use Rattle.std.proofs.Math.Dec.{leb-suc-suc}
 use Rattle.std.proofs.lemmas.Bool.{eqb-false, not-false}
 use Rattle.rules.specs.declared.Refusal.TheVariants.{Finished, FewEntries, BothMarks, NotPlaced, Covered, NoRun, NotWhole}
-use Rattle.rules.specs.Basics.{if◌then◌else◌, elem, index_of}
+use Rattle.rules.specs.Basics.{elem, index_of}
 use Rattle.rules.specs.Refusals.{good, ◌>>◌, refuse_if}
 use Rattle.rules.specs.Bools.{neither}
 use Rattle.rules.specs.Results.{test_false, tested, then_same}

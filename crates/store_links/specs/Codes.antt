@@ -1,12 +1,11 @@
 -- A bend as a number, and back.
-use Rattle.std.specs.Prelude.{ℕ, ◌+◌, ◌-◌, ◌<◌, ◌≡◌, refl, leb}
+use Rattle.std.specs.Prelude.{ℕ, ◌+◌, ◌-◌, ◌<◌, ◌≡◌, refl, leb, if◌then◌else◌}
 use Rattle.std.proofs.Common.{ap, arith, le-leb}
 use Rattle.std.proofs.lemmas.Bool.{lt-leb}
 use Rattle.rules.specs.declared.Style.{Style}
 use Rattle.rules.specs.declared.Style.TheVariants.{OneBend, Straight}
 use Rattle.rules.specs.declared.Bend.{Bend}
 use Rattle.rules.specs.declared.Bend.TheVariants.{Left, Right, Middle, NoBend}
-use Rattle.rules.specs.Basics.{if◌then◌else◌}
 use Rattle.rules.specs.Styles.{bent}
 
 -- one number for each kind of port

@@ -1,7 +1,6 @@
 -- The ports of the inner points, and when 25 needs no look.
-use Rattle.std.specs.Prelude.{ℕ, zero, suc, ◌+◌, ◌≡◌, refl, Bool, true, false, List}
+use Rattle.std.specs.Prelude.{ℕ, zero, suc, ◌+◌, ◌≡◌, refl, Bool, true, false, List, if◌then◌else◌}
 use Rattle.std.proofs.Common.{◌∙◌, arith}
-use Rattle.rules.specs.Basics.{if◌then◌else◌}
 use Rattle.store_links.specs.declared.Spot.{Spot}
 use Rattle.store_links.specs.Placing.{port_reaches, change_from, all_reach_from}
 use Rattle.store_placing.specs.declared.Ports.{Ports}

@@ -1,8 +1,7 @@
 -- Different numbers below k are at most k.
-use Rattle.std.specs.Prelude.{ℕ, zero, suc, ◌<◌, ◌≤◌, ◌≡◌, refl, ◌≢◌, Bool, true, false, eqb}
+use Rattle.std.specs.Prelude.{ℕ, zero, suc, ◌<◌, ◌≤◌, ◌≡◌, refl, ◌≢◌, Bool, true, false, eqb, if◌then◌else◌}
 use Rattle.std.proofs.Common.{sym, ◌∙◌, arith, eqb-true}
 use Rattle.std.proofs.lemmas.Bool.{eqb-false}
-use Rattle.rules.specs.Basics.{if◌then◌else◌}
 
 -- n, or v in place of k
 abbrev swap : ℕ → ℕ → ℕ → ℕ

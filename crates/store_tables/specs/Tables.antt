@@ -1,10 +1,9 @@
 -- The one table that keeps a drawing: the ten arrays, one behind the other, as regions 0 to 9.
 use Prim.Native.Nat.{ℕ, pred, ◌+◌, ◌-◌, ◌*◌, ◌<◌, ◌≤◌, min}
-use Rattle.std.specs.Prelude.{◌≡◌, refl, Bool, true, false, length, get_or, set, drop, eqb, ltb}
+use Rattle.std.specs.Prelude.{◌≡◌, refl, Bool, true, false, length, get_or, set, drop, eqb, ltb, if◌then◌else◌}
 use Rattle.std.proofs.Common.{sym, ap₂, ◌∙◌, arith, eq-eqb, ne_eqb, ltb-true, ltb-false, length-take, length-drop, take-append-drop, drop-drop, take_all}
 use Rattle.std.proofs.Math.Path.{ap, fun_ext}
 use mathlib.Core.List.{List, ◌++◌}
-use Rattle.rules.specs.Basics.{if◌then◌else◌}
 use Rattle.store_links.specs.Arrays.{Arrays, arrays_of, Sized, at_point}
 use Rattle.store_links.specs.Storing.{put_at}
 use Rattle.store_tables.specs.Parts.{part, patched, length_part, patched_before, patched_there, patched_after, part-read, set_before, set_there, set_after}

@@ -2,12 +2,12 @@
 use Rattle.std.proofs.Common.{◌≡◌, ℕ, zero, suc, ◌+◌, ◌*◌, ◌^◌, ◌<◌, ◌≤◌, Bool, true, false, ◌&&◌, ◌||◌, ◌-◌, ◌/◌, min, T, eqb, leb, pos, sym, refl, ap, ◌∙◌, subst, ⊎_elim, true≢false, lt_trans, lt_irrefl, mul-lt-mul_of_pos_right, mul-pos, arith, lit<, eqb→eq, lt-ltb, eq-eqb, le-leb}
 use Rattle.std.proofs.Math.Nat.{eq_of_mul-eq-mul_right}
 use Rattle.std.proofs.Math.Bool.{beq, and-true}
-use Rattle.std.specs.Prelude.{Float}
+use Rattle.std.specs.Prelude.{Float, if◌then◌else◌}
 use Rattle.std.specs.Float.{nan, inf, fin, binary32}
 use Rattle.std.specs.Float.Ieee.{up, down, eq, lt, of_int, to_unsigned}
 use Rattle.std.specs.Float.Ieee.Fits.{down_pos, and_l, and_r}
 use Rattle.std.specs.Float.Ieee.Exact.{HasValue}
-use Rattle.rules.specs.Basics.{if◌then◌else◌, between}
+use Rattle.rules.specs.Basics.{between}
 use Rattle.tool.specs.declared.Tool.{Tool}
 use Rattle.tool.specs.declared.Checked.TheVariants.{Good, Bad}
 use Rattle.tool.specs.Checking.{whole_number, WholePart, checked_of}

@@ -1,9 +1,9 @@
 -- "a tool is three whole numbers of eighths of a millimetre, .. held as f32": the whole numbers, and what the check answers.
-use Rattle.std.specs.Prelude.{◌≡◌, ℕ, ◌*◌, ◌/◌, ◌%◌, ◌<◌, ◌≤◌, true, false, ◌&&◌, ◌==◌, Float}
+use Rattle.std.specs.Prelude.{◌≡◌, ℕ, ◌*◌, ◌/◌, ◌%◌, ◌<◌, ◌≤◌, true, false, ◌&&◌, ◌==◌, Float, if◌then◌else◌}
 use Rattle.std.specs.Float.{nan, inf, fin}
 use Rattle.std.specs.Float.Ieee.{up, down}
 use Rattle.std.specs.Float.Ieee.Exact.{HasValue}
-use Rattle.rules.specs.Basics.{if◌then◌else◌, between}
+use Rattle.rules.specs.Basics.{between}
 use Rattle.rules.specs.Refusals.{Told, gives, refused_with}
 use Rattle.rules.specs.Moves.{Tool as WholeTool, is_tool}
 use Rattle.tool.specs.declared.Tool.{Tool}

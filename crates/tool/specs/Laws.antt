@@ -1,12 +1,12 @@
 -- What the definitions of the check mean, for those who use them.
-use Rattle.std.specs.Prelude.{◌≡◌, ℕ, ◌*◌, ◌/◌, ◌%◌, ◌≤◌, Bool, true, false, not, ◌&&◌, ◌⊎◌, [], ◌∷◌, map, ℤ, pos, negsuc, ◌==◌, nat_le, refl, Float}
+use Rattle.std.specs.Prelude.{◌≡◌, ℕ, ◌*◌, ◌/◌, ◌%◌, ◌≤◌, Bool, true, false, not, ◌&&◌, ◌⊎◌, [], ◌∷◌, map, ℤ, pos, negsuc, ◌==◌, nat_le, refl, Float, if◌then◌else◌}
 use Rattle.std.proofs.Common.{sym, ◌∙◌, subst, mul-one, mul-div_cancel, div-add-mod', arith, true≢false, inl, inr, ⊎_elim, le-leb, leb-true, eqb-true}
 use Rattle.std.proofs.Math.Nat.{mul-mod_left}
 use Rattle.std.specs.Float.{nan, inf, fin}
 use Rattle.std.specs.Float.Ieee.{up, down}
 use Rattle.std.specs.Float.Ieee.Fits.{down_pos}
 use Rattle.std.specs.Float.Ieee.Exact.{HasValue}
-use Rattle.rules.specs.Basics.{if◌then◌else◌, between}
+use Rattle.rules.specs.Basics.{between}
 use Rattle.rules.specs.Bools.{both, in_range}
 use Rattle.rules.specs.declared.Refusal.TheVariants.{BadTool}
 use Rattle.rules.specs.Refusals.{good, told, refuse_if, ◌>>◌}

@@ -1,4 +1,5 @@
 -- One turn of each loop, over plain lists.
+use Rattle.std.specs.Prelude.{if◌then◌else◌}
 use Prim.Native.Nat.{ℕ, zero, suc, ◌+◌, ◌-◌, ◌*◌, ◌<◌, ◌≤◌}
 use mathlib.Core.Path.{◌≡◌, refl, ap, ap₂, sym, ◌∙◌}
 use mathlib.Core.Bool.{Bool, true, false}
@@ -7,7 +8,6 @@ use native.Mathlib.Omega.{arith}
 use lib.ListN.{length, get_or, length-append}
 use lib.Dec.{eqb}
 use borrow.Author.Tests.{eq-eqb, ne_eqb}
-use Rattle.rules.specs.Basics.{if◌then◌else◌}
 use Rattle.words.specs.Bytes.{with_word}
 use Rattle.words.specs.Writing.{Pasted, Ahead, ahead_all, ahead_as, ahead_word, ahead-part, ahead_none}
 use Rattle.write_orders.specs.Writing.{again, count_of, entry_words, point_words, points_words}

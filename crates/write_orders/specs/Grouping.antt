@@ -1,6 +1,6 @@
 -- The lines of a finished drawing stand grouped by their later point, in point order: so the numbers that one pass over the stored lines writes are those of its order file.
 use Prim.Native.Nat.{ℕ, zero, suc, ◌+◌, ◌-◌, ◌<◌, ◌≤◌}
-use Rattle.std.specs.Prelude.{◌≡◌, Bool, get_or}
+use Rattle.std.specs.Prelude.{◌≡◌, Bool, get_or, if◌then◌else◌}
 use Rattle.std.proofs.Math.Path.{refl, ap, ap₂}
 use Rattle.std.proofs.Common.{sym, ◌∙◌, subst₂, add-zero, zero-add}
 use Rattle.std.proofs.Math.Bool.{true, false}
@@ -15,7 +15,7 @@ use Rattle.rules.specs.declared.Style.{Style}
 use Rattle.rules.specs.declared.Entry.{Entry}
 use Rattle.rules.specs.declared.Bend.{Bend}
 use Rattle.rules.specs.declared.Bend.TheVariants.{NoBend}
-use Rattle.rules.specs.Basics.{if◌then◌else◌, keep}
+use Rattle.rules.specs.Basics.{keep}
 use Rattle.rules.specs.declared.Kind.TheVariants.{Guide}
 use Rattle.rules.specs.Entries.{word_of}
 use Rattle.rules.specs.Readings.{entry_of}

@@ -1,6 +1,5 @@
 -- What the order writer writes, from the stored lines: numbers of 16 bits, in order.
-use Rattle.std.specs.Prelude.{ℕ, zero, suc, ◌+◌, ◌-◌, ◌≤◌, ◌≡◌, List, [], ◌∷◌, ◌++◌, length, get_or, eqb}
-use Rattle.rules.specs.Basics.{if◌then◌else◌}
+use Rattle.std.specs.Prelude.{ℕ, zero, suc, ◌+◌, ◌-◌, ◌≤◌, ◌≡◌, List, [], ◌∷◌, ◌++◌, length, get_or, eqb, if◌then◌else◌}
 use Rattle.rules.specs.Refusals.{good}
 use Rattle.rules.specs.Entries.{word_of}
 use Rattle.rules.specs.Readings.{entry_of}
