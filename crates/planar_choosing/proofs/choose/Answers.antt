@@ -1,6 +1,5 @@
 -- `planar_choosing::choose` meets its contract: the positions, the lowest open vertex by them, and its own.
 use mathlib.Core.Path.{refl}
-use borrow.Author.Rules.{rules}
 use Rattle.planar_judging.specs.Laws.{zeros}
 use Rattle.planar_choosing.proofs.choose.Goals as goal
 

@@ -1,11 +1,8 @@
 -- `planar_choosing::free_at` meets its contract: none of the first k lines is a chord.
-use Prim.Native.Nat.{◌-◌}
 use mathlib.Core.Path.{sym, ◌∙◌}
 use native.Mathlib.Omega.{arith}
-use borrow.Author.Rules.{rules}
-use borrow.Author.Tests.{not-true, not-false}
-use Rattle.planar_judging.specs.Laws.{Passed, passed_none, passed_more, passed_stop, passed_all}
-use Rattle.planar_choosing.specs.Free.{no_chord_at?, free_in}
+use Rattle.planar_judging.specs.Laws.{passed_none, passed_more, passed_stop}
+use Rattle.planar_choosing.specs.Free.{free_in}
 use Rattle.planar_choosing.proofs.free_at.Goals as goal
 
 pub loop-k-init : goal.loop-k-init

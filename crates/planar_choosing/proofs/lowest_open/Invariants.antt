@@ -1,11 +1,8 @@
 -- `planar_choosing::lowest_open` meets its contract: none below v is open.
-use Prim.Native.Nat.{ℕ, ◌-◌, ◌≤◌}
-use mathlib.Core.Path.{◌≡◌, sym, ◌∙◌}
-use mathlib.Core.Bool.{Bool}
-use native.Mathlib.Omega.{arith}
-use borrow.Author.Rules.{rules}
+use Prim.Native.Nat.{◌-◌, ◌≤◌}
+use mathlib.Core.Path.{◌≡◌}
 use Rattle.planar_rules.specs.PlanarCode.{lowest}
-use Rattle.planar_choosing.specs.Choosing.{open_in, lowest-here, lowest_on, lowest-end}
+use Rattle.planar_choosing.specs.Choosing.{open_in}
 use Rattle.planar_choosing.proofs.lowest_open.Given as goal
 
 abbrev pub invariant-loop-v : goal.invariant-loop-v

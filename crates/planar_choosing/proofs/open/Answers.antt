@@ -1,7 +1,6 @@
 -- `planar_choosing::open` meets its contract: off the boundary or first, last, or between.
 use mathlib.Core.Path.{sym, ◌∙◌}
 use native.Mathlib.Omega.{arith}
-use borrow.Author.Rules.{rules}
 use Rattle.planar_choosing.specs.Choosing.{open_low, open_last, open_test}
 use Rattle.planar_choosing.proofs.open.Goals as goal
 

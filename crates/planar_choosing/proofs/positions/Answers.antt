@@ -1,10 +1,8 @@
 -- `planar_choosing::positions` meets its contract: pos has where the first i vertices stand.
-use Prim.Native.Nat.{◌-◌, ◌<◌, ◌≤◌}
-use mathlib.Core.Path.{◌≡◌}
+use Prim.Native.Nat.{◌<◌}
 use native.Mathlib.Omega.{arith}
-use borrow.Author.Rules.{rules}
 use lib.ListN.{get_or}
-use Rattle.planar_choosing.specs.Choosing.{Positions, pos_none, pos_more}
+use Rattle.planar_choosing.specs.Choosing.{pos_more}
 use Rattle.planar_choosing.proofs.positions.Goals as goal
 
 pub loop-i-preserved : goal.loop-i-preserved

@@ -1,10 +1,6 @@
 -- `planar_choosing::positions` meets its contract: pos has where the first i vertices stand.
-use Prim.Native.Nat.{◌-◌, ◌<◌, ◌≤◌}
-use mathlib.Core.Path.{◌≡◌}
-use native.Mathlib.Omega.{arith}
-use borrow.Author.Rules.{rules}
-use lib.ListN.{get_or}
-use Rattle.planar_choosing.specs.Choosing.{Positions, pos_none, pos_more}
+use Prim.Native.Nat.{◌-◌, ◌≤◌}
+use Rattle.planar_choosing.specs.Choosing.{Positions}
 use Rattle.planar_choosing.proofs.positions.Given as goal
 
 abbrev pub invariant-loop-i : goal.invariant-loop-i
