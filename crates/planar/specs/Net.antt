@@ -9,9 +9,10 @@ use Rattle.rules.specs.Bools.{both}
 use Rattle.planar_rules.specs.PlanarCode.{Flat, n_of, body, lists?, formed?, neighbours, owners, ends, net_of, taken?}
 use Rattle.planar_sphere.specs.Count.{clash}
 use Rattle.planar_sphere.specs.Flat.{Listed, Valid}
-use Rattle.planar_sphere.specs.Check.{taken_yes}
+use Rattle.planar_sphere.proofs.Check.{taken_yes}
 use Rattle.planar_order.specs.File.{four, byte, listed, all_lists}
-use Rattle.planar_order.specs.Theorem.{Ordered, ordered, own_first}
+use Rattle.planar_order.specs.Theorem.{Ordered}
+use Rattle.planar_order.proofs.Theorem.{ordered, own_first}
 use Rattle.planar_reading.specs.Laws.{Filled}
 use Rattle.planar_judging.specs.Arrays.{flat_of, Kept}
 use Rattle.planar_judging.specs.Laws.{zeros, taken_count}

@@ -8,7 +8,8 @@ use Rattle.rules.specs.Records.{bytes_of, order_mark, entries_mark, end_mark}
 use Rattle.rules.proofs.Lengths.{bytes_append, length-bytes}
 use Rattle.planar_rules.specs.PlanarCode.{Flat, Point, points, vertices, point_of, plain, entry_words, records, order_file, vertex_list, first, second}
 use Rattle.planar_order.specs.Numbering.{AllLines, more as another}
-use Rattle.planar_order.specs.Theorem.{Ordered, order-length, list_length}
+use Rattle.planar_order.specs.Theorem.{Ordered}
+use Rattle.planar_order.proofs.Theorem.{order-length, list_length}
 use Rattle.planar_judging.specs.Arrays.{flat_of}
 use Rattle.planar_choosing.specs.Choosing.{Positions, Apart}
 use Rattle.planar_numbering.specs.Points.{points_in}

@@ -3,7 +3,7 @@ use Rattle.std.specs.Prelude.{ℕ, zero, suc, ◌+◌, ◌-◌, ◌<◌, ◌≤�
 use Rattle.std.proofs.Common.{ap, sym, ◌∙◌, inl, inr, arith, add-one, eq-eqb, ne_eqb, eqb-true}
 use Rattle.std.proofs.Math.Decide.{ℕ_discrete}
 use Rattle.planar_rules.specs.PlanarCode.{Flat, all}
-use Rattle.planar_sphere.specs.Check.{all_true, true_all}
+use Rattle.planar_sphere.proofs.Check.{all_true, true_all}
 use Rattle.planar_sphere.specs.Flat.{Listed}
 use Rattle.planar_sphere.specs.Program.{State, Free}
 

@@ -15,7 +15,8 @@ use Rattle.exchange.specs.Built.{Built, begun, added}
 use Rattle.exchange.specs.Entries.{listed}
 use Rattle.exchange.specs.DrawingRead.{standing}
 use Rattle.planar_rules.specs.PlanarCode.{plain}
-use Rattle.planar_order.specs.Model.{Over, Stands, none, more, over_whole}
+use Rattle.planar_order.specs.Model.{Over, Stands, none, more}
+use Rattle.planar_order.proofs.Model.{over_whole}
 use Rattle.planar_drawn.specs.Runs.{left_at, right_at, old_length, run_length, run_at, new_at, over_pair}
 
 -- plain entries

@@ -7,7 +7,7 @@ use Rattle.planar_rules.specs.PlanarCode.{Flat, Point, first, vertices}
 use Rattle.planar_order.specs.Step.{among}
 use Rattle.planar_order.specs.Numbering.{AllLines, Lines, none, more}
 use Rattle.planar_order.specs.Model.{Distinct}
-use Rattle.planar_order.specs.Theorem.{among_where}
+use Rattle.planar_order.proofs.Theorem.{among_where}
 use Rattle.planar_drawn.specs.Members.{Has}
 
 -- Vertex v is a neighbour of u: some place of u's list names it.

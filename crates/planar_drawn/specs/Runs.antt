@@ -2,7 +2,8 @@
 use Rattle.std.specs.Prelude.{ℕ, suc, ◌+◌, ◌<◌, ◌≡◌, List, [], ◌∷◌, ◌++◌, length, get_or, take, drop}
 use Rattle.std.proofs.Common.{ap, sym, ◌∙◌, append_assoc, arith, length-append, get_or-append-add, take_at, drop_at}
 use Rattle.std.proofs.Math.ListN.{get_or-append}
-use Rattle.planar_order.specs.Model.{Over, over_whole}
+use Rattle.planar_order.specs.Model.{Over}
+use Rattle.planar_order.proofs.Model.{over_whole}
 
 module _ {k : ℕ} {old run new : List ℕ} (o : Over k old run new) where
   -- the run is from l to r on the old boundary

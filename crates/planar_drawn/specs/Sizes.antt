@@ -12,7 +12,7 @@ use Rattle.planar_rules.specs.PlanarCode.{lists?, neighbours, n_of, body, net_of
 use Rattle.planar_rules.specs.Programs.{longest_net, longest_import, import_program, vertex_lines, vertices_program}
 use Rattle.planar_sphere.specs.Count.{clash}
 use Rattle.planar_order.specs.File.{all_lists, four, byte}
-use Rattle.planar_order.specs.Theorem.{valid, always, order-length, list_length}
+use Rattle.planar_order.proofs.Theorem.{valid, always, order-length, list_length}
 use Rattle.planar_drawn.specs.Theorem.{Passed, import_passed, import_drawable}
 
 -- v lists are v zeros and their places

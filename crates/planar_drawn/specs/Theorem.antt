@@ -16,7 +16,7 @@ use Rattle.exchange.specs.Demand2.{drawn_as}
 use Rattle.exchange.specs.Kept.{read_keeps}
 use Rattle.planar_rules.specs.PlanarCode.{Flat, net_of, formed?, taken?, points, vertices, order_file, Import, import_of, imported}
 use Rattle.planar_order.specs.File.{four, byte}
-use Rattle.planar_order.specs.Theorem.{valid, own_first, always}
+use Rattle.planar_order.proofs.Theorem.{valid, own_first, always}
 use Rattle.planar_drawn.specs.Read.{drawn_of, order_of_lem}
 use Rattle.planar_drawn.specs.Members.{at_map}
 use Rattle.planar_drawn.specs.SameNet.{SameNet, vertex_of, same_net}

@@ -10,7 +10,7 @@ use Rattle.planar_rules.specs.PlanarCode.{Flat, all, seek, after, place, back, n
 use Rattle.planar_judging.specs.Arrays.{flat_of, Kept, Backs, after_in, Relabelled}
 use Rattle.planar_sphere.specs.Count.{bool, clash}
 use Rattle.planar_sphere.specs.Flat.{Listed, after_both}
-use Rattle.planar_sphere.specs.Check.{true_and, or_not, not_or, all_true, true_all}
+use Rattle.planar_sphere.proofs.Check.{true_and, or_not, not_or, all_true, true_all}
 
 -- ---- a test of every index, from below
 

@@ -11,12 +11,13 @@ use Rattle.planar_rules.specs.PlanarCode.{Flat, place, run, lowest, open?, next,
 use Rattle.planar_sphere.specs.Count.{count}
 use Rattle.planar_sphere.specs.Arc.{turn_in}
 use Rattle.planar_sphere.specs.Flat.{Listed, bound, Valid}
-use Rattle.planar_sphere.specs.Check.{good, net_of_lem}
+use Rattle.planar_sphere.proofs.Check.{good, net_of_lem}
 use Rattle.planar_sphere.specs.Program.{Is, Free}
 use Rattle.planar_order.specs.Seqs.{new_length}
 use Rattle.planar_order.specs.Model.{Distinct}
 use Rattle.planar_order.specs.Step.{among, state_of, apart, in_net, is_open, free-yes, its_arc, placed, hit, no_hit, p_in, p_some, E-length}
-use Rattle.planar_order.specs.Numbering.{Going, total, goes_on, fits}
+use Rattle.planar_order.specs.Numbering.{Going, total}
+use Rattle.planar_order.proofs.Numbering.{goes_on, fits}
 use Rattle.planar_judging.specs.Arrays.{flat_of}
 use Rattle.planar_choosing.specs.Choosing.{Apart, Within, open_in, open_is, Chosen}
 use Rattle.planar_numbering.specs.Gathering.{Gatherable, Gathered}

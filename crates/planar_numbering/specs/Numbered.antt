@@ -6,7 +6,8 @@ use Rattle.std.proofs.Common.{◌∙◌, length-set, get_or-set_same, get_or-set
 use native.Mathlib.Omega.{arith}
 use Rattle.planar_rules.specs.PlanarCode.{Flat, Point, number, top_point, points, second}
 use Rattle.planar_order.specs.Numbering.{total}
-use Rattle.planar_order.specs.Theorem.{Ordered, ordered}
+use Rattle.planar_order.specs.Theorem.{Ordered}
+use Rattle.planar_order.proofs.Theorem.{ordered}
 use Rattle.planar_judging.specs.Arrays.{flat_of}
 use Rattle.planar_numbering.specs.Gathering.{drop-set}
 use Rattle.planar_numbering.specs.Points.{points_in, points_from, points_same, Fitting, fitting_same}

@@ -7,8 +7,9 @@ use Rattle.std.proofs.Math.Seq.{length-take-le}
 use Rattle.planar_rules.specs.PlanarCode.{Flat, after, back, place, run, top_point, top, second, first}
 use Rattle.planar_sphere.specs.Arc.{turn_in}
 use Rattle.planar_sphere.specs.Flat.{Listed, after_both, Valid}
-use Rattle.planar_sphere.specs.Check.{net_of_lem}
-use Rattle.planar_order.specs.Numbering.{Going, total, goes_first, fits, z_in, start_is, E-gathers, hit, no_hit, p_in}
+use Rattle.planar_sphere.proofs.Check.{net_of_lem}
+use Rattle.planar_order.specs.Numbering.{Going, total}
+use Rattle.planar_order.proofs.Numbering.{goes_first, fits, z_in, start_is, E-gathers, hit, no_hit, p_in}
 use Rattle.planar_judging.specs.Arrays.{flat_of, Kept, after_in}
 use Rattle.planar_numbering.specs.Gathering.{Gatherable, Gathered}
 use Rattle.planar_numbering.specs.Points.{points_in, points_from, points_more, none_left, Fitting, fitting_more, fitting_none}

@@ -17,9 +17,10 @@ use Rattle.planar_sphere.specs.Map.{Map, Net, turn, end}
 use Rattle.planar_sphere.specs.Shell.{Shell, Rim}
 use Rattle.planar_sphere.specs.Arc.{Arc, arc, some-step, on_arc, turn_in, turn-org}
 use Rattle.planar_sphere.specs.Flat.{Listed, round, Valid}
-use Rattle.planar_sphere.specs.Check.{net_of_lem, back_own, place-hit, true_and, or_not, not_or, all_true, true_all}
-use Rattle.planar_sphere.specs.Order.{sound}
-use Rattle.planar_sphere.specs.Program.{turned-nbr, State, Is, Free, Goes, net-map, pick, goes, fewer}
+use Rattle.planar_sphere.proofs.Check.{net_of_lem, back_own, place-hit, true_and, or_not, not_or, all_true, true_all}
+use Rattle.planar_sphere.proofs.Order.{sound}
+use Rattle.planar_sphere.specs.Program.{State, Is, Free, Goes, net-map}
+use Rattle.planar_sphere.proofs.Program.{turned-nbr, pick, goes, fewer}
 use Rattle.planar_order.specs.Model.{index_is as stood}
 use Rattle.planar_order.specs.Seqs.{lowest-hit, new_length, new_low, new_run, new_high, gathers}
 

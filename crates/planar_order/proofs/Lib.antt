@@ -1,0 +1,3 @@
+pub mod Numbering
+pub mod Theorem
+pub mod Model

@@ -1,0 +1,4 @@
+pub mod Check
+pub mod Order
+pub mod Program
+pub mod Cross
