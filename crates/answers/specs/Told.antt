@@ -9,7 +9,6 @@ use Rattle.rules.specs.Styles as Rules
 use Rattle.rules.specs.Moves.{Move as WholeMove}
 use Rattle.tool.specs.declared.Move.{Move}
 use Rattle.answers.specs.declared.Written.{Written}
-use Rattle.answers.specs.declared.Written.TheVariants as Written
 use Rattle.answers.specs.declared.PointSeen.{PointSeen}
 use Rattle.answers.specs.declared.PointSeen.TheVariants as Point
 use Rattle.answers.specs.declared.LineSeen.{LineSeen}
@@ -17,13 +16,9 @@ use Rattle.answers.specs.declared.LineSeen.TheVariants as Line
 use Rattle.answers.specs.declared.CutSeen.{CutSeen}
 use Rattle.answers.specs.declared.CutSeen.TheVariants as Cut
 use Rattle.answers.specs.declared.Moved.{Moved}
-use Rattle.answers.specs.declared.Moved.TheVariants as Moved
 use Rattle.answers.specs.declared.Counted.{Counted}
-use Rattle.answers.specs.declared.Counted.TheVariants as Counted
 use Rattle.answers.specs.declared.Listed.{Listed}
-use Rattle.answers.specs.declared.Listed.TheVariants as Listed
 use Rattle.answers.specs.declared.Imported.{Imported}
-use Rattle.answers.specs.declared.Imported.TheVariants as Imported
 
 -- the number of bytes written
 abbrev pub told_written : Written → Told ℕ

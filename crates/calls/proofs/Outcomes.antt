@@ -16,8 +16,8 @@ use Rattle.store_links.specs.declared.Counts.{Counts}
 use Rattle.store_links.specs.Arrays.{Arrays}
 use Rattle.store_links.specs.Opening.{open_arrays, open_counts, no_counts}
 use Rattle.promise.specs.Promise.{Promised}
-use Rattle.promise.specs.Bounds.{standing-start}
-use Rattle.promise.specs.Theorem.{demand_3, wish_2}
+use Rattle.promise.proofs.Bounds.{standing-start}
+use Rattle.promise.proofs.Theorem.{demand_3, wish_2}
 use Rattle.exchange.specs.Reaching.{reached-drawn}
 use Rattle.store_laws.specs.Opened.{sized_open, stores_open}
 use Rattle.drawing.specs.Opens.{blank}

@@ -5,60 +5,64 @@
 ghost use Rattle.std.specs.Prelude.{◌≤◌, length};
 
 use files::Outcome;
-use libc::{STDIN_FILENO, STDOUT_FILENO};
 use rules::Style;
+use std::fs::File;
+use std::io;
+use std::io::{ErrorKind, Read, Write};
+use std::rt::Files;
 
 // Whether a name begins with this letter.
 fn begins(name: &[u8], letter: u8) -> bool {
     0 < name.len() && name[0] == letter
 }
 
-// Opens a case's file and writes its name.
-fn begin(name: &[u8]) -> i32 {
-    let fd = os::open_read(name);
-    if fd < 0 {
-        os::fail(name);
-        return fd;
+// Opens a case's file.
+fn open<R: Files>(rt: &R, name: &[u8]) -> io::Result<R::File> {
+    match std::str::from_utf8(name) {
+        Ok(path) => File::open(rt, path),
+        Err(_) => Err(io::Error::from(ErrorKind::InvalidFilename)),
     }
-    io::write_all(STDOUT_FILENO, name);
-    io::write_all(STDOUT_FILENO, b": ");
-    fd
 }
 
-// Closes it, behind what came out: a line feed, also after a refusal, which ends its own line.
-fn end(fd: i32) {
-    io::write_all(STDOUT_FILENO, b"\n");
-    libc::close(fd);
+// Says on standard error why it isn't open.
+fn fail<V: Write>(name: &[u8], error: io::Error, errors: &mut V) {
+    let _ = files::print(errors, name);
+    let _ = writeln!(errors, ": {error}");
 }
 
 // What a case's program makes of its file.
-fn work(name: &[u8], fd: i32) -> Outcome {
+fn work<F: Read, W: Write>(name: &[u8], from: &mut F, to: &mut W) -> Outcome {
     if begins(name, b's') {
-        return files::draw(Style::Straight, fd);
+        return files::draw(Style::Straight, from, to);
     }
     if begins(name, b'r') {
-        return files::undraw(Style::Straight, fd);
+        return files::undraw(Style::Straight, from, to);
     }
     if begins(name, b'u') {
-        return files::undraw(Style::OneBend, fd);
+        return files::undraw(Style::OneBend, from, to);
     }
     if begins(name, b'n') {
-        return files_import::import(fd);
+        return files_import::import(from, to);
     }
     if begins(name, b'v') {
-        return files_import::import_vertices(fd);
+        return files_import::import_vertices(from, to);
     }
-    files::draw(Style::OneBend, fd)
+    files::draw(Style::OneBend, from, to)
 }
 
-// One case.
-fn run(name: &[u8]) {
-    let fd = begin(name);
-    if fd < 0 {
-        return;
+// One case: its name, what comes out, and a line feed, also after a refusal, which ends its own line.
+fn run<R: Files, W: Write, V: Write>(rt: &R, name: &[u8], to: &mut W, errors: &mut V) {
+    match open(rt, name) {
+        Err(e) => fail(name, e, errors),
+        Ok(opened) => {
+            let mut file = opened;
+            let _ = files::print(to, name);
+            let _ = files::print(to, b": ");
+            let outcome = work(name, &mut file, to);
+            files::report(name, outcome, errors);
+            let _ = files::print(to, b"\n");
+        }
     }
-    files::report(name, work(name, fd));
-    end(fd);
 }
 
 // Where the line that begins at `from` ends: at a line feed, or where the text ends.
@@ -77,17 +81,22 @@ fn line_end(text: &[u8], from: usize) -> usize
 }
 
 // Every case that a line names.
-fn run_all(text: &[u8]) {
+fn run_all<R: Files, W: Write, V: Write>(rt: &R, text: &[u8], to: &mut W, errors: &mut V) {
     let mut at = 0;
     while at < text.len() {
         let end = line_end(text, at);
-        run(&text[at..end]);
+        run(rt, &text[at..end], to, errors);
         at = end + 1;
     }
 }
 
-fn main() {
-    let mut text = io::buffer();
-    let length = io::read_full(STDIN_FILENO, &mut text);
-    run_all(&text[..length]);
+fn main(rt: HostRuntime) {
+    let mut text = [0u8; 4096];
+    let input = files::read_input(&mut rt.stdin(), &mut text);
+    run_all(
+        &rt,
+        &text[..input.bytes],
+        &mut rt.stdout(),
+        &mut rt.stderr(),
+    );
 }

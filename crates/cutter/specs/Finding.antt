@@ -4,7 +4,7 @@ use Rattle.std.proofs.Common.{sym, ap, ◌∙◌, add-one, arith, length-append}
 use Rattle.std.proofs.Math.Decide.{dec_lt}
 use Rattle.rules.specs.Points.{Drawing as Plan, line_at}
 use Rattle.rules.specs.Moves.{Tool as WholeTool, moves_of, all_moves}
-use Rattle.promise.specs.Bounds.{lines_most}
+use Rattle.promise.proofs.Bounds.{lines_most}
 use Rattle.store_links.specs.declared.Counts.{Counts}
 use Rattle.store_links.specs.Arrays.{Arrays}
 use Rattle.store_laws.specs.Adding.{Holds}

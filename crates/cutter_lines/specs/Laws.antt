@@ -9,8 +9,6 @@ use Rattle.rules.specs.declared.Kind.TheVariants.{Guide, Plain, Feeder}
 use Rattle.rules.specs.Meeting.{same_place}
 use Rattle.rules.specs.Moves.{Tool as WholeTool, Move as WholeMove, lift, repeated}
 use Rattle.rules.proofs.Dwelling.{bent-list, bent-count}
-use Rattle.tool.specs.declared.Numbers.{Numbers}
-use Rattle.tool.specs.Checking.{tool_of}
 use Rattle.cutter_lines.specs.declared.Groove.{Groove}
 use Rattle.cutter_lines.specs.Grooves.{five_moves, once_moves, groove_moves, cuts, each, total, step_of}
 

@@ -3,6 +3,7 @@
 
 use rules::Style;
 
-fn main() {
-    files::report(b"draw", files::draw(Style::OneBend, 0));
+fn main(rt: HostRuntime) {
+    let outcome = files::draw(Style::OneBend, &mut rt.stdin(), &mut rt.stdout());
+    files::report(b"draw", outcome, &mut rt.stderr());
 }

@@ -3,6 +3,7 @@
 
 use rules::Style;
 
-fn main() {
-    files::report(b"draw_straight", files::draw(Style::Straight, 0));
+fn main(rt: HostRuntime) {
+    let outcome = files::draw(Style::Straight, &mut rt.stdin(), &mut rt.stdout());
+    files::report(b"draw_straight", outcome, &mut rt.stderr());
 }

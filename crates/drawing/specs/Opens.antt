@@ -13,7 +13,7 @@ use Rattle.rules.specs.Points.{Drawing as Plan, opening, opened}
 use Rattle.store_links.specs.Opening.{open_arrays, open_counts, no_counts}
 use Rattle.store_tables.specs.Tables.{arrays_in}
 use Rattle.store_points.specs.Zeros.{zeros}
-use Rattle.promise.specs.Bounds.{standing-start}
+use Rattle.promise.proofs.Bounds.{standing-start}
 use Rattle.exchange.specs.Reaching.{reached-opening}
 use Rattle.store_laws.specs.Opened.{sized_open, stores_open}
 use Rattle.drawing.specs.declared.Drawing.{Drawing}

@@ -8,20 +8,17 @@ use Rattle.rules.specs.declared.Refusal.TheVariants.{OutOfRange, OtherDrawing}
 use Rattle.rules.specs.Basics.{between}
 use Rattle.rules.specs.Refusals.{good}
 use Rattle.rules.specs.Same.{compare_same}
-use Rattle.rules.specs.Points.{Drawing, m, W}
+use Rattle.rules.specs.Points.{Drawing, W}
 use Rattle.rules.specs.Records.{written, read_record, several, read_end, from_start, drawing_head, point_place, line_shape, line_size, end_shape}
 use Rattle.rules.proofs.Lengths.{length-bytes}
 use Rattle.rules.proofs.RoundTrip.{record_back}
 use Rattle.rules.specs.DrawingFile.{highest, write_points, drawing_bytes, compare_bytes, judge_drawing, read_drawing}
-use Rattle.promise.specs.Next.{next}
-use Rattle.promise.specs.Accepted.{accepted}
-use Rattle.promise.specs.Border.{m'}
-use Rattle.promise.specs.Bounds.{Standing, standing-start, standing-added}
-use Rattle.promise.specs.Within.{counted}
+use Rattle.promise.proofs.Bounds.{Standing, standing-start, standing-added}
+use Rattle.promise.proofs.Within.{counted}
 use Rattle.exchange.specs.Built.{Built, begun, added, Whole}
 use Rattle.rules.specs.Bools.{both, in_range, range_in}
 use Rattle.rules.specs.Results.{never-good, bound, binds_to, tested, goes_to, followed, same_value}
-use Rattle.exchange.specs.Entries.{lengthened, listed, whole_so}
+use Rattle.exchange.specs.Entries.{listed, whole_so}
 use Rattle.exchange.specs.Groups.{written_all, AllFit, found_all, several_back, length_all, lines_words, lines_are, lines_fit, length-lines, lines-read, judge-built, judged-built}
 
 -- ---- the point records of a drawing

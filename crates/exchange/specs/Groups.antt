@@ -109,7 +109,7 @@ line_reads Straight s l b f e = rw e (refl, let f = field_back l.kind in λ i. r
 
 pub lines-read : (d : Drawing) (o : ℕ) (ls : List Line) (rest : List ℕ) → Reads d.style (found_all (line_shape d.style) o (lines_words d ls) rest) ls
 lines-read d o [] rest = none
-lines-read d o (l ∷ ls) rest = let t = line_reads d.style d.s l (bend_place d l) (found 0 (line_words d.style d.s l (bend_place d l)) 0 []) refl in some t.0 t.1 (lines-read d _ ls rest)
+lines-read d o (l ∷ ls) rest = let t = line_reads d.style d.s l (bend_place d l) (found 0 (line_words d.style d.s l (bend_place d l)) 0 []) refl in some t.0 t.1 (lines-read d (o + length (written (line_shape d.style) (line_words d.style d.s l (bend_place d l)))) ls rest)
 
 -- ---- groups
 
@@ -244,7 +244,7 @@ judged-rest {τ} {n} {s} {second} {third} {ess} b zero end e fs h = (ess, subst 
 judged-rest {τ} {ess = ess} {d = d} b (suc c) end e fs h =
     let es = group τ (suc d.k) fs in
     let t = bound (placed (group_place end fs) (add_entries d es)) _ e h in
-    let r = judged-rest (added es b (placed-good (group_place end fs) (add_entries d es) t.value t.first)) c end e (behind (suc d.k) fs) t.last in
+    let r = judged-rest {ess = snoc ess es} (added es b (placed-good (group_place end fs) (add_entries d es) t.value t.first)) c end e (behind (suc d.k) fs) t.last in
     (r.0, r.1, omega (arith, r.2, length-snoc ess es))
 
 -- the entries that a drawing was built from

@@ -9,10 +9,12 @@ use Rattle.rules.specs.Moves.{Tool, is_tool, moves_once}
 use Rattle.rules.specs.OrderFile.{read_order}
 use Rattle.rules.specs.DrawingFile.{read_drawing}
 use Rattle.promise.specs.Promise.{IsLine, Promised}
-use Rattle.promise.specs.Bounds.{Standing}
-use Rattle.promise.specs.Exact.{ExactBy, sound-exact}
-use Rattle.promise.specs.Theorem.{standing-keeps}
-use Rattle.promise.specs.Dwelling.{LeftOut, moves_by, left_out, moves_of-line}
+use Rattle.promise.proofs.Bounds.{Standing}
+use Rattle.promise.specs.Exact.{ExactBy}
+use Rattle.promise.proofs.Exact.{sound-exact}
+use Rattle.promise.proofs.Theorem.{standing-keeps}
+use Rattle.promise.specs.Dwelling.{LeftOut, moves_by}
+use Rattle.promise.proofs.Dwelling.{left_out, moves_of-line}
 use Rattle.exchange.specs.Built.{Reached}
 use Rattle.exchange.specs.DrawingRead.{standing, drawing-read}
 use Rattle.exchange.specs.WholeRead.{whole_read, style-read}

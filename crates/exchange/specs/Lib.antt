@@ -10,7 +10,6 @@ pub mod OrderBytes
 pub mod Groups
 pub mod WholeRead
 pub mod DrawingRead
-pub mod Fields
 pub mod FirstBytes
 pub mod Demand2
 pub mod Kept

@@ -11,9 +11,9 @@ use Rattle.rules.specs.Refusals.{number, Result, good, refused, ◌>>=◌, ◌>>
 use Rattle.rules.proofs.Readings.{points-given, tests_of, judge_of, adding}
 use Rattle.rules.specs.Styles.{reach_passes}
 use Rattle.rules.specs.Points.{Drawing, m}
-use Rattle.rules.specs.Adding.{l_of, r_of, inner, row_height, points_of, spread, new_x, new_y, all_reach, entry_tests, run_tests, call_tests, judge, placed_new, add_entries}
+use Rattle.rules.specs.Adding.{l_of, r_of, inner, row_height, points_of, spread, new_x, new_y, all_reach, entry_tests, run_tests, call_tests, judge, add_entries}
 use Rattle.rules.specs.Records.{Size, plain, counted, Shape, Cursor, Found, first, words_at, rest_of, read_record, several, read_end, end_shape, from_start, drawing_head, point_place, line_shape}
-use Rattle.rules.specs.OrderFile.{start_with, write_order}
+use Rattle.rules.specs.OrderFile.{start_with}
 use Rattle.rules.specs.DrawingFile.{group, behind, group_place, drawing_bytes, judge_rest, judge_lines, compare_bytes, judge_drawing, read_drawing, order_back}
 
 -- what is given isn't 13

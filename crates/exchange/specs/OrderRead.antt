@@ -13,7 +13,7 @@ use Rattle.rules.specs.Refusals.{Result, good, ◌>>=◌, ◌>>◌, refuse_if, p
 use Rattle.rules.specs.Entries.{read_entry, word_of, is_both, points_read, given_in}
 use Rattle.rules.specs.Readings.{entry_of}
 use Rattle.rules.proofs.Readings.{words-given, added-given, add_entries_lem}
-use Rattle.rules.specs.Readings as Readings
+use Rattle.rules.proofs.Readings.{points_read_lem as run_read}
 use Rattle.rules.specs.Points.{Drawing}
 use Rattle.rules.specs.Adding.{add_read, points_of}
 use Rattle.rules.specs.Records.{Cursor, Found, first, read_record, read_end, marked, from_start, written, order_head, scale_shape, point_entries, end_shape}
@@ -120,7 +120,7 @@ pub record StartRead (wanted : List ℕ) (f : Found) {B : Type 0} (after : Resul
 
 -- the points of a record that passes 4
 start-points : (wanted : List ℕ) (f : Found) {u : Unit {0}} → start_test wanted (points_read (entries_in f)) f.place ≡ good u → points_of (said_in f) ≡ wanted
-start-points wanted f h = sym (Readings.points_read_lem f.words) ∙ same_is (points_read (entries_in f)) wanted (not-false _ (test_false _ OtherStart f.place h))
+start-points wanted f h = sym (run_read f.words) ∙ same_is (points_read (entries_in f)) wanted (not-false _ (test_false _ OtherStart f.place h))
 
 -- the tests of point 2 or 3 passed
 pub start-read : {B : Type 0} (wanted : List ℕ) (f : Found) (after : Result B) (e : B) → (record_tests wanted (entries_in f) f.place >> after) ≡ good e → StartRead wanted f after e

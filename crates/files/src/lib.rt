@@ -1,10 +1,13 @@
-// The programs' reading and writing. What they print is `printing`'s, with its proof; only that `read` and `write` do what C says of them is outside it.
+// The programs' reading and writing, of any reader and writer. What they print is `printing`'s, with its proof; only which bytes the system gives to a read and takes from a write is outside it.
 #![tactic(auto)]
 
-ghost use Rattle.std.specs.Prelude.{◌≤◌, length};
+ghost use Rattle.std.specs.Prelude.{◌≡◌, ◌≤◌, length, false, IfSome};
+ghost use Rattle.std.specs.Io.KnownBytes.{Appends};
+ghost use Rattle.rules.specs.Output.{program, back_program};
+ghost use Rattle.printing.specs.Began.{Began};
 
-use libc::{STDERR_FILENO, STDOUT_FILENO};
 use rules::{LONGEST_DRAWING, LONGEST_ORDER, Style};
+use std::io::{Read, Write};
 
 // "It judges the first 32,768 bytes of its input as the whole file."
 pub const ORDER_INPUT: usize = 32768;
@@ -28,19 +31,18 @@ pub struct Input {
 }
 
 // Reads until the buffer is full, the input ends or a read fails.
-pub fn read_input(fd: i32, buffer: &mut [u8]) -> Input
-    ensures { result.bytes ≤ length buffer.new }
+pub fn read_input<R: Read>(from: &mut R, buffer: &mut [u8]) -> Input
+    ensures within { result.bytes ≤ length buffer.new }
+    ensures began { result.failed ≡ false → IfSome (R.remaining from.old) (λ file. Began file buffer.new result.bytes) }
 {
     let mut bytes = 0;
     while bytes < buffer.len() {
-        let got = libc::read(fd, &mut buffer[bytes..]);
-        if got < 0 {
+        let Ok(more) = from.read(&mut buffer[bytes..]) else {
             return Input {
                 bytes,
                 failed: true,
             };
-        }
-        let more = io::count(got, &buffer[bytes..]);
+        };
         if more == 0 {
             break;
         }
@@ -52,50 +54,62 @@ pub fn read_input(fd: i32, buffer: &mut [u8]) -> Input
     }
 }
 
-// Writes the bytes to standard output.
-pub fn print(bytes: &[u8]) -> Outcome {
-    if io::write_all(STDOUT_FILENO, bytes) {
-        Outcome::Written
-    } else {
-        Outcome::NotWritten
+// Writes the bytes, to standard output in the programs.
+pub fn print<W: Write>(to: &mut W, bytes: &[u8]) -> Outcome
+    ensures { result ≡ Outcome.Written → Appends (W.contents to.old) (W.contents to.new) bytes.now }
+{
+    let mut done = 0;
+    while done < bytes.len() {
+        let Ok(more) = to.write(&bytes[done..]) else {
+            return Outcome::NotWritten;
+        };
+        if more == 0 {
+            return Outcome::NotWritten;
+        }
+        done += more;
     }
+    Outcome::Written
 }
 
-// The drawing program of a style on an open file.
-pub fn draw(style: Style, fd: i32) -> Outcome {
+// The drawing program of a style, from a file that is open to a writer.
+pub fn draw<R: Read, W: Write>(style: Style, from: &mut R, to: &mut W) -> Outcome
+    ensures { result ≡ Outcome.Written → IfSome (R.remaining from.old) (λ file. Appends (W.contents to.old) (W.contents to.new) (program style file)) }
+{
     let mut order = [0u8; ORDER_INPUT];
-    let input = read_input(fd, &mut order);
+    let input = read_input(from, &mut order);
     if input.failed {
         return Outcome::NotRead;
     }
     let mut page = [0u8; LONGEST_DRAWING];
     let length = printing::draw_page(style, &order, input.bytes, &mut page);
-    print(&page[..length])
+    print(to, &page[..length])
 }
 
-// The reading program of a style on an open file.
-pub fn undraw(style: Style, fd: i32) -> Outcome {
+// The reading program of a style, in the same manner.
+pub fn undraw<R: Read, W: Write>(style: Style, from: &mut R, to: &mut W) -> Outcome
+    ensures { result ≡ Outcome.Written → IfSome (R.remaining from.old) (λ file. Appends (W.contents to.old) (W.contents to.new) (back_program style file)) }
+{
     let mut file = [0u8; DRAWING_INPUT];
-    let input = read_input(fd, &mut file);
+    let input = read_input(from, &mut file);
     if input.failed {
         return Outcome::NotRead;
     }
     let mut page = [0u8; LONGEST_ORDER];
     let length = printing::undraw_page(style, &file, input.bytes, &mut page);
-    print(&page[..length])
+    print(to, &page[..length])
 }
 
-// Says on standard error, behind the program's name, what failed: the language has no exit status.
-pub fn report(program: &[u8], outcome: Outcome) {
+// Says, on standard error in the programs, behind the program's name, what failed: the programs' exit status stays 0.
+pub fn report<W: Write>(program: &[u8], outcome: Outcome, to: &mut W) {
     match outcome {
         Outcome::Written => {}
-        Outcome::NotWritten => say(program, b": not all of the output was written\n"),
-        Outcome::NotRead => say(program, b": the input could not be read\n"),
+        Outcome::NotWritten => say(program, b": not all of the output was written\n", to),
+        Outcome::NotRead => say(program, b": the input could not be read\n", to),
     }
 }
 
-// Writes a line on standard error.
-fn say(program: &[u8], text: &[u8]) {
-    io::write_all(STDERR_FILENO, program);
-    io::write_all(STDERR_FILENO, text);
+// Writes a line there.
+fn say<W: Write>(program: &[u8], text: &[u8], to: &mut W) {
+    let _ = print(to, program);
+    let _ = print(to, text);
 }

@@ -1,29 +1,38 @@
-// The import programs' reading and writing. What they print is `printing_import`'s, with its proof; only that `read` and `write` do what C says of them is outside it.
+// The import programs' reading and writing, of any reader and writer. What they print is `printing_import`'s, with its proof; only which bytes the system gives to a read and takes from a write is outside it.
 #![tactic(auto)]
+
+ghost use Rattle.std.specs.Prelude.{◌≡◌, IfSome};
+ghost use Rattle.std.specs.Io.KnownBytes.{Appends};
+ghost use Rattle.planar_rules.specs.Programs.{import_program, vertices_program};
 
 use files::{ORDER_INPUT, Outcome};
 use planar_rules::{LONGEST_IMPORT, MOST_VERTICES};
+use std::io::{Read, Write};
 
 // Room for the lines of all vertices, at most three digits and a line feed each; a number's digits are put where 20 would fit.
 const LINES: usize = 4 * MOST_VERTICES + 20;
 
-// The import program on an open file.
-pub fn import(fd: i32) -> Outcome {
+// The import program, from a file that is open to a writer.
+pub fn import<R: Read, W: Write>(from: &mut R, to: &mut W) -> Outcome
+    ensures { result ≡ Outcome.Written → IfSome (R.remaining from.old) (λ file. Appends (W.contents to.old) (W.contents to.new) (import_program file)) }
+{
     let mut file = [0u8; ORDER_INPUT];
-    let input = files::read_input(fd, &mut file);
+    let input = files::read_input(from, &mut file);
     if input.failed {
         return Outcome::NotRead;
     }
     let mut page = [0u8; LONGEST_IMPORT];
     let mut list = [0u8; MOST_VERTICES];
     let length = printing_import::import_page(&file, input.bytes, &mut page, &mut list);
-    files::print(&page[..length])
+    files::print(to, &page[..length])
 }
 
-// The program that prints the vertices by point, on an open file.
-pub fn import_vertices(fd: i32) -> Outcome {
+// The program that prints the vertices by point, in the same manner.
+pub fn import_vertices<R: Read, W: Write>(from: &mut R, to: &mut W) -> Outcome
+    ensures { result ≡ Outcome.Written → IfSome (R.remaining from.old) (λ file. Appends (W.contents to.old) (W.contents to.new) (vertices_program file)) }
+{
     let mut file = [0u8; ORDER_INPUT];
-    let input = files::read_input(fd, &mut file);
+    let input = files::read_input(from, &mut file);
     if input.failed {
         return Outcome::NotRead;
     }
@@ -37,5 +46,5 @@ pub fn import_vertices(fd: i32) -> Outcome {
         &mut order,
         &mut list,
     );
-    files::print(&page[..length])
+    files::print(to, &page[..length])
 }

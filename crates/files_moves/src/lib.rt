@@ -1,11 +1,15 @@
-// The moves programs' reading and writing. What they print is `printing_moves`', with its proof; only that arguments, `read` and `write` are what C says of them is outside it.
+// The moves programs' reading and writing, of any reader, writer and arguments. What they print is `printing_moves`', with its proof; only which arguments and bytes the system gives, and which it takes, is outside it.
 #![tactic(auto)]
 
-ghost use Rattle.std.specs.Prelude.{◌≡◌, ◌≤◌, length};
+ghost use Rattle.std.specs.Prelude.{◌≡◌, ℕ, ◌≤◌, List, length, IfSome};
 ghost use Rattle.rules.specs.Output.{judged_bytes};
+ghost use Rattle.printing.specs.Began.{Began};
+ghost use Rattle.files_moves.specs.Printing.{PrintsMoves, AppendsMoves};
 
 use files::{ORDER_INPUT, Outcome};
 use rules::Style;
+use std::env::Env;
+use std::io::{Read, Write};
 
 // Room for the moves of every drawing: a kind and two numbers each.
 const KINDS: usize = 30720;
@@ -18,18 +22,28 @@ const PAGE: usize = 983104;
 // Longer than every word that is a number; a word that doesn't fit counts as an empty one, and neither is a number.
 const WORD: usize = 16;
 
+// Puts a word of the program's arguments at the start of the buffer. Returns how many bytes it has, 0 also where there is none or it doesn't fit.
+fn word<E: Env>(env: &E, number: usize, buffer: &mut [u8]) -> usize
+    ensures { result ≤ length buffer.new }
+{
+    match env.arg(number, buffer) {
+        Ok(n) => n,
+        Err(_) => 0,
+    }
+}
+
 // The page begins with what is to be printed of the order file read, with the tool of the program's arguments: pitch, depth and clearance. Returns how many bytes that is.
-#[tactic(auto, unfolding(planar_sphere::specs::Order::start))]
-fn fill(style: Style, order: &[u8], n: usize, page: &mut [u8]) -> usize
+fn fill<E: Env>(style: Style, order: &[u8], n: usize, page: &mut [u8], env: &E) -> usize
     requires { (length order.now ≡ judged_bytes) × (n ≤ length order.now) × (983104 ≤ length page.old) }
-    ensures { result ≤ length page.new }
+    ensures within { result ≤ length page.new }
+    ensures printed { (file : List ℕ) → Began file order.now n → PrintsMoves style file page.old page.new result }
 {
     let mut pitch = [0u8; WORD];
     let mut depth = [0u8; WORD];
     let mut clearance = [0u8; WORD];
-    let p = os::arg(1, &mut pitch);
-    let d = os::arg(2, &mut depth);
-    let c = os::arg(3, &mut clearance);
+    let p = word(env, 1, &mut pitch);
+    let d = word(env, 2, &mut depth);
+    let c = word(env, 3, &mut clearance);
     let mut kinds = [0u8; KINDS];
     let mut numbers = [0.0f32; NUMBERS];
     printing_moves::moves_page(
@@ -50,14 +64,21 @@ fn blank() -> [u8; PAGE] {
     [0u8; PAGE]
 }
 
-// The moves program of a style on an open file.
-pub fn moves(style: Style, fd: i32) -> Outcome {
+// The moves program of a style, from a file that is open to a writer.
+pub fn moves<R: Read, W: Write, E: Env>(
+    style: Style,
+    from: &mut R,
+    to: &mut W,
+    env: &E,
+) -> Outcome
+    ensures { result ≡ Outcome.Written → IfSome (R.remaining from.old) (λ file. AppendsMoves style file (W.contents to.old) (W.contents to.new)) }
+{
     let mut order = [0u8; ORDER_INPUT];
-    let input = files::read_input(fd, &mut order);
+    let input = files::read_input(from, &mut order);
     if input.failed {
         return Outcome::NotRead;
     }
     let mut page = blank();
-    let length = fill(style, &order, input.bytes, &mut page);
-    files::print(&page[..length])
+    let length = fill(style, &order, input.bytes, &mut page, env);
+    files::print(to, &page[..length])
 }

@@ -5,8 +5,9 @@
 ghost use Rattle.std.specs.Prelude.{◌+◌, ◌<◌, ◌≤◌, length};
 
 use drawing::Drawing;
-use libc::STDOUT_FILENO;
 use rules::Style;
+use std::io;
+use std::io::Read;
 use store_tables::{BENDS, DLS, DRS, GAP, HS, LATER, NEXT, OWNER, WORDS, YS};
 
 // A byte, to compute with.
@@ -71,18 +72,34 @@ fn repeat(n: usize, rounds: usize, calls: &[u16]) -> usize {
     placed
 }
 
+// Reads until the buffer is full, the input ends or a read fails; gives how many bytes stand at its start.
+fn read_full<R: Read>(from: &mut R, buffer: &mut [u8]) -> usize
+    ensures { result ≤ length buffer.new }
+{
+    let mut done = 0;
+    while done < buffer.len() {
+        let Ok(more) = from.read(&mut buffer[done..]) else {
+            break;
+        };
+        if more == 0 {
+            break;
+        }
+        done += more;
+    }
+    done
+}
+
 // Reads the numbers, makes the calls and prints the line; fewer than two numbers give no line.
-fn main() {
+fn main(rt: HostRuntime) -> io::Result<()> {
     let mut bytes = [0u8; 131072];
-    let got = io::read_full(0, &mut bytes);
+    let got = read_full(&mut rt.stdin(), &mut bytes);
     let mut numbers = [0u16; 65536];
     let count = take_words(&bytes[..got], &mut numbers);
     if count < 2 {
-        return;
+        return Ok(());
     }
     let n = words::broad(numbers[0]);
     let rounds = words::broad(numbers[1]);
     let placed = repeat(n, rounds, &numbers[2..count]);
-    io::print_decimal(STDOUT_FILENO, placed as u64);
-    io::write_all(STDOUT_FILENO, b"\n");
+    println!(rt; "{placed}")
 }

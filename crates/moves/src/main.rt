@@ -3,6 +3,7 @@
 
 use rules::Style;
 
-fn main() {
-    files::report(b"moves", files_moves::moves(Style::OneBend, 0));
+fn main(rt: HostRuntime) {
+    let outcome = files_moves::moves(Style::OneBend, &mut rt.stdin(), &mut rt.stdout(), &rt);
+    files::report(b"moves", outcome, &mut rt.stderr());
 }

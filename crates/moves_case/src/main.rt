@@ -5,8 +5,9 @@ ghost use Rattle.drawing.specs.Places.{IsPlaced};
 
 use answers::{Counted, Moved};
 use drawing::Placed;
-use libc::STDOUT_FILENO;
 use rules::{Answer, Style};
+use std::io;
+use std::io::Write;
 use tool::{Move, Tool};
 
 // x in eighths; the fraction, if there were one, is dropped.
@@ -18,77 +19,78 @@ fn eighths(x: f32) -> u64 {
     0
 }
 
-fn print_number(x: f32) {
-    io::write_all(STDOUT_FILENO, b" ");
-    io::print_decimal(STDOUT_FILENO, eighths(x));
+// A number behind a space, in eighths.
+fn print_number<W: Write>(to: &mut W, x: f32) -> io::Result<()> {
+    let n = eighths(x);
+    write!(to, " {n}")
 }
 
-fn print_move(m: Move) {
+fn print_move<W: Write>(to: &mut W, m: Move) -> io::Result<()> {
     match m {
         Move::Travel(x, y) => {
-            io::write_all(STDOUT_FILENO, b"travel");
-            print_number(x);
-            print_number(y);
+            write!(to, "travel")?;
+            print_number(to, x)?;
+            print_number(to, y)
         }
         Move::Plunge(z) => {
-            io::write_all(STDOUT_FILENO, b"plunge -");
-            io::print_decimal(STDOUT_FILENO, eighths(-z));
+            let n = eighths(-z);
+            write!(to, "plunge -{n}")
         }
         Move::Cut(x, y) => {
-            io::write_all(STDOUT_FILENO, b"cut");
-            print_number(x);
-            print_number(y);
+            write!(to, "cut")?;
+            print_number(to, x)?;
+            print_number(to, y)
         }
         Move::Lift(z) => {
-            io::write_all(STDOUT_FILENO, b"lift");
-            print_number(z);
+            write!(to, "lift")?;
+            print_number(to, z)
         }
     }
 }
 
 // Move `number`, or why there is none.
-fn print_at(v: Placed, t: Tool, number: usize)
+fn print_at<W: Write>(to: &mut W, v: Placed, t: Tool, number: usize) -> io::Result<()>
     requires { IsPlaced v }
 {
     match cutter::move_at(v, t, number) {
-        Moved::Made(m) => print_move(m),
+        Moved::Made(m) => print_move(to, m)?,
         Moved::Refused(r, _) => {
-            io::write_all(STDOUT_FILENO, b"refused ");
-            io::print_decimal(STDOUT_FILENO, answers::refusal_number(r) as u64);
+            let n = answers::refusal_number(r);
+            write!(to, "refused {n}")?
         }
     }
-    io::write_all(STDOUT_FILENO, b"\n");
+    writeln!(to, "")
 }
 
 // All moves with a tool, and what the number past them gives.
-fn print_all(v: Placed, t: Tool)
+fn print_all<W: Write>(to: &mut W, v: Placed, t: Tool) -> io::Result<()>
     requires { IsPlaced v }
 {
     let Counted::Moves(n) = cutter::move_count(v) else {
-        return;
+        return Ok(());
     };
     for number in 0..n {
-        print_at(v, t, number);
+        print_at(to, v, t, number)?;
     }
-    print_at(v, t, n);
+    print_at(to, v, t, n)
 }
 
 // The moves of an order file's drawing.
-fn print_order(order: &[u8], t: Tool) {
+fn print_order<W: Write>(to: &mut W, order: &[u8], t: Tool) -> io::Result<()> {
     let done = panel::drawing_of(Style::OneBend, order);
     let d = done.drawing;
     let answer = done.answer;
     let Answer::Accepted = answer else {
-        return;
+        return Ok(());
     };
-    print_all(drawing::settle(d), t);
+    print_all(to, drawing::settle(d), t)
 }
 
 // The moves of a net of four points, drawn straight by calls.
-fn print_straight(t: Tool) {
+fn print_straight<W: Write>(to: &mut W, t: Tool) -> io::Result<()> {
     let opened = drawing::open(Style::Straight, 4);
     let four = drawing::add(opened.drawing, &[0x4001u16, 0x8003, 2]);
-    print_all(drawing::settle(four.drawing), t);
+    print_all(to, drawing::settle(four.drawing), t)
 }
 
 // A tool of these numbers.
@@ -100,26 +102,32 @@ fn tool_of(pitch: f32, depth: f32, clearance: f32) -> Tool {
     }
 }
 
-fn main() {
+fn main(rt: HostRuntime) -> io::Result<()> {
+    let mut out = rt.stdout();
+    let to = &mut out;
     let opened = drawing::open(Style::OneBend, 5);
     let four = drawing::add(opened.drawing, &[1u16, 3]);
     let five = drawing::add(four.drawing, &[1u16, 4, 3, 2]);
-    print_all(drawing::settle(five.drawing), tool_of(3.0, 1.0, 80.0));
+    print_all(to, drawing::settle(five.drawing), tool_of(3.0, 1.0, 80.0))?;
     print_order(
+        to,
         b"HD\x00\x05SC\x00\x08PT\x00\x00PT\x00\x01\x00\x01PT\x00\x02\x00\x01\x00\x02PT\x00\x02\x00\x01\x00\x03PT\x00\x04\x00\x01\x00\x04\x00\x03\x00\x02EN",
         tool_of(80.0, 40.0, 1.0),
-    );
+    )?;
     print_order(
+        to,
         b"HD\x00\x04PT\x00\x00PT\x00\x01\x00\x01PT\x00\x02\x00\x01\x00\x02PT\x00\x03\x40\x01\x80\x03\x00\x02EN",
         tool_of(8.0, 8.0, 8.0),
-    );
+    )?;
     print_order(
+        to,
         b"HD\x00\x05PT\x00\x00PT\x00\x01\x00\x01PT\x00\x02\x00\x01\x00\x02PT\x00\x02\x00\x03\x00\x02PT\x00\x04\x00\x01\x00\x03\x00\x04\x00\x02EN",
         tool_of(8.0, 8.0, 8.0),
-    );
+    )?;
     print_order(
+        to,
         b"HD\x00\x04PT\x00\x00PT\x00\x01\x80\x01PT\x00\x02\x80\x01\x80\x02PT\x00\x03\x80\x01\x80\x03\x80\x02EN",
         tool_of(8.0, 8.0, 8.0),
-    );
-    print_straight(tool_of(1.0, 1.0, 80.0));
+    )?;
+    print_straight(to, tool_of(1.0, 1.0, 80.0))
 }

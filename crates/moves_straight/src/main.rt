@@ -3,6 +3,7 @@
 
 use rules::Style;
 
-fn main() {
-    files::report(b"moves_straight", files_moves::moves(Style::Straight, 0));
+fn main(rt: HostRuntime) {
+    let outcome = files_moves::moves(Style::Straight, &mut rt.stdin(), &mut rt.stdout(), &rt);
+    files::report(b"moves_straight", outcome, &mut rt.stderr());
 }

@@ -1,5 +1,5 @@
 -- Pieces that a linear functional keeps apart do not meet; pieces that touch at a level have only that point in common.
-use Rattle.std.specs.Prelude.{ℕ, ◌+◌, ◌*◌, ◌-◌, ◌<◌, ◌≤◌, ◌≡◌, false}
+use Rattle.std.specs.Prelude.{ℕ, ◌+◌, ◌*◌, ◌<◌, ◌≤◌, ◌≡◌, false}
 use Rattle.std.proofs.Common.{ap, arith, mul-le-mul_left}
 use Rattle.std.proofs.Math.Decide.{dec_le}
 use Rattle.rules.specs.declared.Place.{Place}

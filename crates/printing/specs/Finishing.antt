@@ -8,7 +8,7 @@ use Rattle.rules.specs.Numbers.{never-gives, same_refusal}
 use Rattle.rules.specs.OrderFile.{longest_order}
 use Rattle.rules.specs.DrawingFile.{draw_file, order_back, longest_drawing}
 use Rattle.rules.specs.Output.{fitted, counted, filled, refusal_line, printed}
-use Rattle.exchange.specs.Lengths.{drawn_most, back_most}
+use Rattle.exchange.proofs.Longest.{drawn_most, back_most}
 use Rattle.answers.specs.declared.Written.{Written}
 use Rattle.answers.specs.declared.Written.TheVariants.{Bytes, Refused}
 use Rattle.answers.specs.Told.{told_written}

@@ -1,5 +1,5 @@
 -- Bytes put into a page one behind the other, and a page that begins with what is to be printed.
-use Rattle.std.specs.Prelude.{ℕ, ◌+◌, ◌≤◌, ◌≡◌, refl, List, ◌++◌, length, take, drop}
+use Rattle.std.specs.Prelude.{ℕ, ◌+◌, ◌≤◌, ◌≡◌, List, ◌++◌, length, take, drop}
 use Rattle.std.proofs.Common.{ap, sym, ◌∙◌, subst, zero-add, arith, length-append, take_at}
 use Rattle.std.proofs.Math.Seq.{take-length}
 use Rattle.rules.specs.Refusals.{good}

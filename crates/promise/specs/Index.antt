@@ -1,7 +1,6 @@
 -- Where a point stands on the boundary after a covering: `join l r` of where it stood. No point needs to stand on the boundary only once.
-use Rattle.std.specs.Prelude.{ℕ, zero, suc, ◌+◌, ◌<◌, ◌≤◌, ◌≡◌, refl, ◌≢◌, Bool, true, false, ◌&&◌, List, [], ◌∷◌, ◌++◌, length, get_or, take, drop, ltb, eqb}
-use Rattle.std.proofs.Common.{ap, sym, ◌∙◌, arith, ltb-true, ltb-false, eqb-true}
-use Rattle.std.proofs.lemmas.Bool.{eqb-false}
+use Rattle.std.specs.Prelude.{ℕ, zero, suc, ◌+◌, ◌<◌, ◌≤◌, ◌≡◌, refl, ◌≢◌, Bool, true, false, ◌&&◌, List, [], ◌∷◌, ◌++◌, length, get_or, take, drop, ltb}
+use Rattle.std.proofs.Common.{arith, ltb-true, ltb-false}
 use Rattle.net.specs.Adds.{join}
 use Rattle.rules.specs.Basics.{index_of}
 use Rattle.rules.specs.Indices.{Here, hit, miss, here}

@@ -20,17 +20,9 @@ pub mod Step
 pub mod Reaching
 pub mod Taking
 pub mod Spots
-pub mod Edges
-pub mod Within
 pub mod Leaving
-pub mod Sectors
 pub mod Degree
-pub mod Angled
-pub mod Planar
 pub mod Exact
 pub mod Frames
-pub mod Bounds
-pub mod Straight
-pub mod Theorem
 pub mod Kinds
 pub mod Dwelling

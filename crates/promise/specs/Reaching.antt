@@ -48,7 +48,7 @@ module _ (d : Drawing) (es : List Entry) (l r : ℕ) (s : Sound d) (q : IsRun d 
       reach_passes τ (all_reach (new_x l r (spread l r d)) (new_y l r (spread l r d)) (row_height (points_of es)) (spread l r d) 1 (inner (points_of es))) ≡ true
   unfolding Test
   passes OneBend b =
-      all_reach_lem _ _ _ _ 1 (inner (points_of es))
+      all_reach_lem (new_x l r (spread l r d)) (new_y l r (spread l r d)) (row_height (points_of es)) (spread l r d) 1 (inner (points_of es))
       (λ j h.
       let one : 1 + j ≡ suc j = omega arith in
       let c : suc j < r - l = omega (arith, inners d es l r s q) in

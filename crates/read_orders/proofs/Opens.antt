@@ -14,7 +14,7 @@ use Rattle.store_links.specs.declared.Counts.{Counts}
 use Rattle.store_links.specs.Arrays.{Arrays}
 use Rattle.store_links.specs.Judging.{point_in}
 use Rattle.store_links.specs.Opening.{open_arrays, open_counts}
-use Rattle.promise.specs.Bounds.{standing-start}
+use Rattle.promise.proofs.Bounds.{standing-start}
 use Rattle.store_laws.specs.Opened.{sized_open, stores_open}
 use Rattle.store_laws.specs.Adding.{Holds}
 use Rattle.read_start.specs.declared.Start.{Start}

@@ -1,6 +1,5 @@
 -- Worked cases of request 3 (`vectors-requests.txt`), by computing: a cut to where the cutter is, is left out. Moves in eighths of a millimetre.
 use Rattle.std.specs.Prelude.{ℕ, ◌≡◌, refl, List, [], ◌∷◌, map, length}
-use Rattle.rules.specs.declared.Style.{Style}
 use Rattle.rules.specs.declared.Style.TheVariants.{OneBend, Straight}
 use Rattle.rules.specs.declared.Kind.TheVariants.{Plain}
 use Rattle.rules.specs.declared.Bend.{Bend}
@@ -13,7 +12,7 @@ use Rattle.rules.specs.Adding.{call_tests, judge, placed_new, add_read}
 use Rattle.rules.specs.Calls.{drawn}
 use Rattle.rules.specs.OrderFile.{read_rest, read_points, read_order}
 use Rattle.rules.specs.Lookups.{look_line}
-use Rattle.rules.specs.Moves.{Tool, Move, travel, plunge, cut, lift, moves_of, all_moves, given_moves, move_at}
+use Rattle.rules.specs.Moves.{Tool, travel, plunge, cut, lift, moves_of, all_moves, given_moves, move_at}
 
 abbrev tool : ℕ → ℕ → ℕ → Tool
 tool pitch depth clearance = record { pitch = pitch; depth = depth; clearance = clearance }

@@ -11,7 +11,6 @@ use Rattle.rules.specs.Bools.{both, is_false, in_range, range_in}
 use Rattle.rules.specs.Refusals.{Result, good, refused}
 use Rattle.rules.specs.Entries.{is_cut, read_entry, given_in, points_read}
 use Rattle.rules.specs.Points.{Drawing, line_at}
-use Rattle.rules.specs.Demand.{ends_at}
 use Rattle.rules.specs.Adding.{judge, placed_new, add_read, add}
 use Rattle.rules.specs.Calls.{left, after}
 use Rattle.rules.specs.Lookups.{CutLineAt, cut_at, Sought, cut_line, no_cut_line, look_cut}

@@ -1,16 +1,14 @@
 -- Worked cases of the lines of moves and of the words of the tool, by computing.
-use Rattle.std.specs.Prelude.{ℕ, zero, suc, ◌/◌, ◌%◌, ◌&&◌, ◌≡◌, ◌<◌, ◌≤◌, refl, List, [], ◌∷◌, ◌++◌, map, length, take, leb, if◌then◌else◌}
+use Rattle.std.specs.Prelude.{ℕ, ◌≡◌, refl, List, [], ◌∷◌, ◌++◌, map, zero, suc, ◌/◌, ◌%◌, ◌&&◌, ◌<◌, ◌≤◌, length, take, leb, if◌then◌else◌}
 use Rattle.std.proofs.Common.{ap, ◌∙◌, ◌++◌, lit<, lit≤}
 use Rattle.rules.specs.declared.Style.{Style}
 use Rattle.rules.specs.Basics.{between, all_of}
 use Rattle.rules.specs.Refusals.{good, ◌>>=◌}
 use Rattle.rules.specs.Basics.{snoc}
-use Rattle.rules.specs.Decimal.{digits, is_digit, value_from}
+use Rattle.rules.specs.Decimal.{digits}
 use Rattle.rules.proofs.Decimal.{digits_one, digits_more}
-use Rattle.rules.specs.OrderFile.{read_order}
-use Rattle.rules.specs.Moves.{Tool, Move, travel, cut, plunge, lift, given_moves}
-use Rattle.rules.specs.Output.{judged_bytes, printed}
-use Rattle.rules.specs.MoveLines.{fraction, millimetres, move_line, move_lines, moves_program, word_number, words_tool}
+use Rattle.rules.specs.Moves.{travel, plunge}
+use Rattle.rules.specs.MoveLines.{millimetres, move_lines, word_number}
 
 -- ---- worked: "0", "0.375", "1.25", "10.875" and "408880" millimetres; "plunge -0.375" and "travel 1.25 0.5"
 

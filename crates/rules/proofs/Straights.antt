@@ -6,7 +6,7 @@ use Rattle.rules.specs.declared.Bend.TheVariants.{NoBend}
 use Rattle.rules.specs.declared.Kind.{Kind}
 use Rattle.rules.specs.declared.Kind.TheVariants.{Guide, Plain, Feeder}
 use Rattle.rules.specs.declared.Refusal.TheVariants.{FileEnds, WrongMark, OtherStart, NotWhole, OtherDrawing, BothMarks, Unfinished, NoSuch, OutputShort, BadTool}
-use Rattle.rules.specs.Refusals.{Result, good, refused, ◌>>=◌, gives, refused_with, told_answer}
+use Rattle.rules.specs.Refusals.{good, refused, ◌>>=◌, gives, refused_with, told_answer}
 use Rattle.rules.specs.Styles.{LineSeen, without_bend}
 use Rattle.rules.specs.Points.{Drawing, at}
 use Rattle.rules.specs.Adding.{call_tests, judge, placed_new, add_read}

@@ -1,19 +1,13 @@
--- Laws of reading entries: none of an accepted call's is marked both, so that it has the entries of the three kinds that its numbers say.
-use Rattle.std.specs.Prelude.{ℕ, zero, suc, ◌/◌, ◌%◌, ◌≡◌, refl, false, not, ◌||◌, List, [], ◌∷◌, map, length, drop, leb, ltb, eqb}
-use Rattle.std.proofs.Common.{sym, ap, ap₂, ◌∙◌, true≢false, arith}
+-- Entries without the test of 13, and the tests with their run beside them.
+use Rattle.std.specs.Prelude.{ℕ, zero, suc, ◌/◌, ◌%◌, List, length, drop, leb, ltb}
 use Rattle.rules.specs.declared.Kind.{Kind}
 use Rattle.rules.specs.declared.Kind.TheVariants.{Guide, Plain, Feeder}
 use Rattle.rules.specs.declared.Entry.{Entry}
-use Rattle.rules.specs.declared.Reading.{Reading}
-use Rattle.rules.specs.declared.Reading.TheVariants.{Given, Both}
-use Rattle.rules.specs.declared.Refusal.TheVariants.{Finished, FewEntries, BothMarks, NotPlaced, Covered}
-use Rattle.rules.specs.Basics.{elem, any_of}
-use Rattle.rules.specs.Refusals.{Result, good, ◌>>◌, refuse_if}
-use Rattle.rules.specs.Bools.{neither}
-use Rattle.rules.specs.Results.{followed, both_pass, tested}
-use Rattle.rules.specs.Entries.{point_limit, reading, read_entry, is_both, point_read, points_read, given_in}
+use Rattle.rules.specs.declared.Refusal.TheVariants.{Finished, FewEntries}
+use Rattle.rules.specs.Refusals.{Result, ◌>>◌, refuse_if}
+use Rattle.rules.specs.Entries.{point_limit}
 use Rattle.rules.specs.Points.{Drawing}
-use Rattle.rules.specs.Adding.{l_of, r_of, points_of, spread, entry_tests, run_tests, whole_test, call_tests, reach_test, judge, placed_new, add_read, add_entries, add}
+use Rattle.rules.specs.Adding.{l_of, run_tests, whole_test}
 
 -- ---- an entry without the test: of a number that isn't marked both, the one that is read
 

@@ -9,7 +9,7 @@ use borrow.Author.Tests.{lt-ltb, le-ltb, le-leb, lt-leb, eq-eqb, ne_eqb}
 use Rattle.rules.specs.declared.Refusal.{Refusal}
 use Rattle.rules.specs.declared.Refusal.TheVariants.{Finished, FewEntries, NotWhole}
 use Rattle.rules.specs.declared.Answer.TheVariants.{Accepted, Refused}
-use Rattle.rules.specs.Refusals.{◌>>◌, refuse_if, answer}
+use Rattle.rules.specs.Refusals.{refuse_if, answer}
 use Rattle.rules.specs.Results.{accepted, stops}
 use Rattle.store_links.specs.Judging.{entries_pass, run_passes, passes}
 

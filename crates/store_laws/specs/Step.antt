@@ -3,7 +3,7 @@ use Rattle.std.specs.Prelude.{ℕ, suc, ◌+◌, ◌-◌, ◌<◌, ◌≤◌, �
 use Rattle.std.proofs.Common.{ap, sym, ◌∙◌, arith}
 use Rattle.std.proofs.lemmas.List.{length-map}
 use Rattle.rules.specs.Styles.{taken}
-use Rattle.rules.specs.Points.{Drawing, m}
+use Rattle.rules.specs.Points.{Drawing}
 use Rattle.rules.specs.Readings.{entry_of}
 use Rattle.store_links.specs.declared.Spot.{Spot}
 use Rattle.store_links.specs.declared.Counts.{Counts}
@@ -15,7 +15,7 @@ use Rattle.promise.specs.Sound.{Sound}
 use Rattle.promise.specs.Next.{IsRun, next}
 use Rattle.promise.specs.Columns.{style_next, k_next}
 use Rattle.promise.specs.Border.{m'}
-use Rattle.promise.specs.Within.{counted}
+use Rattle.promise.proofs.Within.{counted}
 use Rattle.store_laws.specs.Spotted.{Spotted}
 use Rattle.store_laws.specs.Puts.{length-put, length-gaps, length-owners, length-filled}
 use Rattle.store_laws.specs.Points.{Call, after, size, ys_kept, hs_kept, dls_kept, drs_kept, owner_kept}

@@ -12,7 +12,6 @@ use store_links::bend_from;
 use store_tables::{BENDS, LATER, WORDS};
 
 // Line e of the table.
-#[tactic(auto, unfolding(store_tables::specs::Tables::arrays_in))]
 pub fn line_in(table: &[u16], e: usize) -> Line
     requires { (e < 3072) × Full table.now }
     ensures { result ≡ line_in (arrays_in table.now) e }

@@ -28,7 +28,6 @@ fn put(table: &mut [u16], at: usize, p: usize, v: usize)
 }
 
 // The inner points of the run get the new point v as their owner, and their gaps count from it.
-#[tactic(auto, unfolding(store_tables::specs::Tables::arrays_in, store_links::specs::Storing::covered_gaps, store_links::specs::Storing::covered_owners))]
 pub fn cover(e: &[u16], table: &mut [u16], p: Spot, v: u16)
     requires { Coverable e.now (arrays_in table.old).gap p × Full table.old }
     ensures { arrays_in table.new ≡ covered (arrays_in table.old) e.now p v (inner_count e.now) }

@@ -1,6 +1,12 @@
 -- The test of an f32 against a whole number, and the range of a truncating cast.
-use Rattle.std.specs.Prelude.{if◌then◌else◌}
-use Rattle.std.proofs.Common.{◌≡◌, ℕ, zero, suc, ◌+◌, ◌*◌, ◌^◌, ◌<◌, ◌≤◌, Bool, true, false, ◌&&◌, ◌||◌, T, eqb, leb, pos, sym, refl, ap, ◌∙◌, subst, ⊎_elim, true≢false, lt_trans, lt_irrefl, mul-lt-mul_of_pos_right, mul-pos, arith, lit<, eqb→eq, lt-ltb, eq-eqb, le-leb}
+use Rattle.std.proofs.Common.{◌≡◌, ℕ, zero, suc, ◌+◌, ◌*◌, ◌^◌, ◌<◌, ◌≤◌, Bool, true, false, ◌&&◌, ◌||◌, ◌-◌, ◌/◌, min, T, eqb, leb, pos, sym, refl, ap, ◌∙◌, subst, ⊎_elim, true≢false, lt_trans, lt_irrefl, mul-lt-mul_of_pos_right, mul-pos, arith, lit<, eqb→eq, lt-ltb, eq-eqb, le-leb}
+use Rattle.std.proofs.Math.Nat.{eq_of_mul-eq-mul_right}
+use Rattle.std.proofs.Math.Bool.{beq, and-true}
+use Rattle.std.specs.Prelude.{Float, if◌then◌else◌}
+use Rattle.std.specs.Float.{nan, inf, fin, binary32}
+use Rattle.std.specs.Float.Ieee.{up, down, eq, lt, of_int, to_unsigned}
+use Rattle.std.specs.Float.Ieee.Fits.{down_pos, and_l, and_r}
+use Rattle.std.specs.Float.Ieee.Exact.{HasValue}
 use native.Mathlib.Nat.{eq_of_mul-eq-mul_right}
 use mathlib.Core.Bool.{beq, and-true}
 use lib.Ieee.{Float, nan, inf, fin, binary32, up, down, eq, lt, of_int, to_unsigned}
@@ -57,8 +63,14 @@ in_cast (fin true m d) k h v = absurd (true≢false v.0)
 in_cast (fin false m d) k h v = (
   lt-ltb 0 (1 * down d + m * up d * 1) (omega (arith, down_pos d)),
   lt-ltb (m * up d * 1) (2 ^ 64 * down d) (subst (λ (z : ℕ). z < 2 ^ 64 * down d) (sym v.1) (mul-lt-mul_of_pos_right (lt_trans h (lit< tt)) (down_pos d))),
-  omega (arith, quotient m d k v.1),
+  go k (omega (arith, quotient m d k v.1)) (lt_trans h (lit< tt)),
 )
+  where
+    n : ℕ
+    n = m * up d / down d
+
+    go : (k : ℕ) → n ≡ k → k < 2 ^ 64 → min n (2 ^ 64 - 1) ≡ k
+    go k e l = omega arith
 
 -- a float that is none of the numbers
 pub no_number : (most : ℕ) (x : Float) → ((k : ℕ) → 1 ≤ k → k ≤ most → HasValue x false k 1 → ⊥) → 0 ≡ whole_number most x

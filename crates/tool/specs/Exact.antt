@@ -1,5 +1,5 @@
 -- A whole number below 2 ^ 24 as an f32, divided by 8, and back: no error.
-use Rattle.std.specs.Prelude.{◌≡◌, ℕ, zero, suc, ◌*◌, ◌^◌, ◌<◌, ◌≤◌, Bool, true, false, not, List, [], ◌∷◌, length, pos, slice_index_or, Float}
+use Rattle.std.specs.Prelude.{◌≡◌, ℕ, zero, suc, ◌*◌, ◌^◌, ◌<◌, Bool, true, false, not, List, [], ◌∷◌, length, pos, slice_index_or, Float}
 use Rattle.std.proofs.Common.{sym, ap, ◌∙◌, mul-one, mul_assoc, mul_right_comm, mul-pos, le_of_lt, lt_trans, mul-lt-mul_of_pos_right, true≢false, arith, lit<, pow_pos}
 use Rattle.std.proofs.Math.Nat.{eq_of_mul-eq-mul_right}
 use Rattle.std.specs.Float.{nan, inf, fin, binary32}

@@ -3,6 +3,7 @@
 
 use rules::Style;
 
-fn main() {
-    files::report(b"undraw", files::undraw(Style::OneBend, 0));
+fn main(rt: HostRuntime) {
+    let outcome = files::undraw(Style::OneBend, &mut rt.stdin(), &mut rt.stdout());
+    files::report(b"undraw", outcome, &mut rt.stderr());
 }

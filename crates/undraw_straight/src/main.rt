@@ -3,6 +3,7 @@
 
 use rules::Style;
 
-fn main() {
-    files::report(b"undraw_straight", files::undraw(Style::Straight, 0));
+fn main(rt: HostRuntime) {
+    let outcome = files::undraw(Style::Straight, &mut rt.stdin(), &mut rt.stdout());
+    files::report(b"undraw_straight", outcome, &mut rt.stderr());
 }

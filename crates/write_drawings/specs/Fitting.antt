@@ -7,7 +7,7 @@ use Rattle.rules.proofs.Lengths.{high-least}
 use Rattle.rules.specs.DrawingFile.{highest, drawing_bytes}
 use Rattle.store_links.specs.declared.Counts.{Counts}
 use Rattle.store_links.specs.Arrays.{Arrays}
-use Rattle.promise.specs.Bounds.{width_most, lines_most, place_most, bend_most}
+use Rattle.promise.proofs.Bounds.{width_most, lines_most, place_most, bend_most}
 use Rattle.store_settling.specs.Bending.{bendable_of}
 use Rattle.rules.specs.Records.{head_size, place_size, line_size}
 use Rattle.write_drawings.specs.Finished.{Finished, Writable, PointsReady, LineFits, LinesReady}

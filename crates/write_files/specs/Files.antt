@@ -12,7 +12,8 @@ use Rattle.store_laws.specs.Adding.{Holds}
 use Rattle.store_settling.specs.Placed.{Settled, placed_at}
 use Rattle.write_drawings.specs.Finished.{Finished, Writable}
 use Rattle.exchange.specs.Built.{Whole}
-use Rattle.exchange.specs.Lengths.{whole_length, whole_most}
+use Rattle.exchange.proofs.Lengths.{whole_length}
+use Rattle.exchange.proofs.Longest.{whole_most}
 use Rattle.answers.specs.declared.Written.{Written}
 use Rattle.write_files.specs.Outputs.{Ended, Wrote}
 

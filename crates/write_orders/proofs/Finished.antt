@@ -11,7 +11,7 @@ use Rattle.rules.specs.Output.{filled}
 use Rattle.rules.proofs.Lengths.{length-bytes}
 use Rattle.store_links.specs.declared.Counts.{Counts}
 use Rattle.store_links.specs.Arrays.{Arrays, Stores}
-use Rattle.promise.specs.Bounds.{lines_most}
+use Rattle.promise.proofs.Bounds.{lines_most}
 use Rattle.exchange.specs.Built.{Whole}
 use Rattle.exchange.specs.Replay.{replayed}
 use Rattle.rules.specs.Records.{bytes_of, end_mark}

@@ -13,18 +13,19 @@ use Rattle.rules.specs.Adding.{add_entries}
 use Rattle.rules.specs.Calls.{drawn}
 use Rattle.promise.specs.Promise.{Promise, StraightPromise, Promised}
 use Rattle.promise.specs.Sound.{Sound, Bent, bent, unbent}
-use Rattle.promise.specs.Exact.{ExactBy, sound-exact, no_step_3}
+use Rattle.promise.specs.Exact.{ExactBy}
+use Rattle.promise.proofs.Exact.{sound-exact, no_step_3}
 use Rattle.promise.specs.Columns.{style_next}
 use Rattle.promise.specs.Opening.{sound-start}
 use Rattle.promise.specs.Accepted.{accepted, after_keeps}
 use Rattle.promise.specs.Step.{sound-added}
-use Rattle.promise.specs.Edges.{rising, bordered, slopes}
-use Rattle.promise.specs.Sectors.{sectors, single}
-use Rattle.promise.specs.Planar.{planar}
-use Rattle.promise.specs.Angled.{angles}
-use Rattle.promise.specs.Within.{counted, points_framed, bends_framed, narrow}
-use Rattle.promise.specs.Bounds.{Standing, standing-start, standing-added, place_most}
-use Rattle.promise.specs.Straight.{even, wide, finished}
+use Rattle.promise.proofs.Edges.{rising, bordered, slopes}
+use Rattle.promise.proofs.Sectors.{sectors, single}
+use Rattle.promise.proofs.Planar.{planar}
+use Rattle.promise.proofs.Angled.{angles}
+use Rattle.promise.proofs.Within.{counted, points_framed, bends_framed, narrow}
+use Rattle.promise.proofs.Bounds.{Standing, standing-start, standing-added, place_most}
+use Rattle.promise.proofs.Straight.{even, wide, finished}
 
 -- a one-bend drawing keeps every clause of demand 3
 pub bent-keeps : (d : Drawing) → Bent d → Promise d

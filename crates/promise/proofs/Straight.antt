@@ -1,7 +1,7 @@
 -- What a straight drawing keeps: the clauses that are its own. The rest are those of both drawings (Edges, Planar, Within).
 use Rattle.std.specs.Prelude.{ℕ, ◌+◌, ◌<◌, ◌≤◌, ◌≡◌, length, get_or}
 use Rattle.std.proofs.Common.{arith}
-use Rattle.rules.specs.Points.{Drawing, w, m}
+use Rattle.rules.specs.Points.{Drawing, m}
 use Rattle.rules.specs.DrawingFile.{highest}
 use Rattle.rules.proofs.Lengths.{high_most, high-least}
 use Rattle.net.specs.Parity.{parity}
@@ -9,7 +9,7 @@ use Rattle.net.specs.Size.{inside, top}
 use Rattle.promise.specs.Nets.{net_of}
 use Rattle.promise.specs.Promise.{Even, Wide, Finished}
 use Rattle.promise.specs.Sound.{Unbent}
-use Rattle.promise.specs.Bounds.{Ranged}
+use Rattle.promise.proofs.Bounds.{Ranged}
 
 module _ {d : Drawing} (s : Unbent d) where
   pub even : Even d

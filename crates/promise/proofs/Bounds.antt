@@ -1,6 +1,6 @@
 -- What the arithmetic of the running calls needs, for both drawings: ranges of the counts and of places.
 -- That no subtraction of the rules truncates is in Exact, and for steps 3 and 4 also in Places; columns are in Moved and Columns.
-use Rattle.std.specs.Prelude.{ℕ, suc, pred, ◌+◌, ◌*◌, ◌<◌, ◌≤◌, ◌≡◌, refl, List, length}
+use Rattle.std.specs.Prelude.{ℕ, suc, pred, ◌*◌, ◌<◌, ◌≤◌, ◌≡◌, refl, List, length}
 use Rattle.std.proofs.Common.{sym, arith}
 use Rattle.rules.specs.declared.Style.{Style}
 use Rattle.rules.specs.declared.Style.TheVariants.{OneBend, Straight}

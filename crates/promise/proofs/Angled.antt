@@ -1,5 +1,5 @@
 -- DEMAND 3, clause 5: two lines leave a point at an angle that is wide enough.
-use Rattle.std.specs.Prelude.{ℕ, pred, ◌+◌, ◌-◌, ◌*◌, ◌≤◌, ◌≡◌, ◌≢◌, true, leb}
+use Rattle.std.specs.Prelude.{ℕ, pred, ◌+◌, ◌-◌, ◌*◌, ◌≤◌, ◌≡◌, true, leb}
 use Rattle.std.proofs.Common.{ap, sym, arith, mul-le-mul_left, le-leb}
 use Rattle.std.proofs.Math.Bool.{or-true}
 use Rattle.rules.specs.declared.Place.{Place}

@@ -1,0 +1,10 @@
+pub mod Theorem
+pub mod Bounds
+pub mod Straight
+pub mod Within
+pub mod Edges
+pub mod Planar
+pub mod Sectors
+pub mod Angled
+pub mod Exact
+pub mod Dwelling
