@@ -1,4 +1,4 @@
-"""Prints microseconds per layout for n = 256 and 1,024. From the project's root, after `rt check layout`."""
+"""Prints microseconds per layout for n = 256 and 1,024. From the project's root, after `tools/make layout`."""
 import subprocess
 import time
 

@@ -1,4 +1,4 @@
-/* What target/staticlib/libpanel_c.a offers to C and C++; `rt staticlib panel_c` makes it.
+/* What target/staticlib/libpanel_c.a offers to C and C++; `tools/make panel_c` makes it.
    Files, numbers and places are those of document 01 (../shared/01-scope.md). README.md says what to do about each refusal.
    An order file is drawn in one of two styles: `panel_X` draws lines with one bend at most, `panel_straight_X` straight lines.
    `panel_import` makes the order file of a net from a graph generator.

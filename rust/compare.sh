@@ -8,7 +8,7 @@ tests='cargo test --release --offline --manifest-path rust/Cargo.toml'
 said=$(mktemp)
 trap 'rm -f "$said"' EXIT
 $tests -p second >"$said" 2>&1 &
-rt staticlib panel_c
+tools/make panel_c
 if ! wait $!; then
     cat "$said"
     exit 1
@@ -45,7 +45,7 @@ target/moves_c 1 3 5 straight <examples/feeders.order | head -n 4 | diff - <(
 target/moves_c 8 8 8 straight <examples/feeders.order | wc -l | diff - <(echo 44)
 target/moves_c 8 41 8 <examples/k4.order | diff - <(echo 'refused 12 at 0')
 # The programs print what the library lists, also of the largest panel with every line a feeder and the largest tool.
-rt check moves moves_straight import import_vertices draw >/dev/null
+tools/make moves moves_straight import import_vertices draw
 for order in examples/k4.order examples/feeders.order examples/largest.order; do
     for tool in '80 40 80' '1 1 1' '7 13 41' '8 8 81' '8 8'; do
         target/moves_c $tool <"$order" | cmp - <(target/bin/moves $tool <"$order")

@@ -17,7 +17,7 @@ fn main() {
     if !archive.is_file() {
         eprintln!(
             "The proved library is missing: no file {}.\n\
-             Make it with `rt staticlib panel_c` in {}, or set PANEL_C_DIR to the folder that has it.",
+             Make it with `tools/make panel_c` in {}, or set PANEL_C_DIR to the folder that has it.",
             archive.display(),
             root.display()
         );

@@ -1,0 +1,11 @@
+-- `store_placing::change_at`: after the entries passed, `a` is the place of the last of them, and the definition goes on behind it.
+use mathlib.Core.Path.{◌≡◌}
+use Prim.Native.Nat.{suc, ◌≤◌, ◌+◌, ◌*◌, ◌-◌}
+use Rattle.store_links.specs.Placing.{way, change_from, inner_count}
+use Rattle.store_placing.proofs.change_at.Given as goal
+
+abbrev pub invariant-scan : goal.invariant-scan
+invariant-scan l = (l.passed ≤ inner_count l.e) × (l.a ≡ way l.gap l.e l.passed + l.p.s1) × (l.a ≤ l.p.s1 + 65535 * l.passed) × (change_from l.p l.gap l.ys l.e 1 (inner_count l.e) ≡ change_from l.p l.gap l.ys l.e (suc l.passed) (inner_count l.e - l.passed))
+
+abbrev pub decreases-scan : goal.decreases-scan
+decreases-scan l = inner_count l.e - l.passed

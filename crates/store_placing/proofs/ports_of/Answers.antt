@@ -1,0 +1,15 @@
+-- Where no port changes, all reach.
+use Rattle.std.proofs.Common.{◌+◌, ◌≡◌, true, sym, ap, ◌∙◌, arith}
+use Rattle.store_links.specs.Placing.{all_reach_from, inner_count}
+use Rattle.store_placing.specs.declared.Ports.TheVariants.{From}
+use Rattle.store_placing.specs.Ports.{no_change}
+use Rattle.store_placing.proofs.ports_of.Goals as goal
+
+pub returns-then-from-last : goal.returns-then-from-last
+returns-then-from-last c =
+    let f = c.change_at-from in
+    let a = c.args in
+    let last : f.result ≡ 1 + inner_count a.e.now = omega (arith, c.if-from-last.true, c.requires.3) in
+    let all : all_reach_from a.p a.gap.now a.ys.now a.e.now 1 (inner_count a.e.now) ≡ true =
+    no_change a.p a.gap.now a.ys.now a.e.now 1 (inner_count a.e.now) (sym f.ensures ∙ last) in
+    rw all (ap From f.ensures)
