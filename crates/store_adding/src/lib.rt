@@ -25,6 +25,7 @@ fn index_at(e: &[u16], i: usize) -> usize
 }
 
 // Where the new point goes, over the run of the entries.
+#[tactic(auto, unfolding(store_tables::specs::Tables::arrays_in))]
 fn spot_over(style: Style, e: &[u16], table: &[u16]) -> Spot
     requires { Runs e.now (arrays_in table.now) × Full table.now }
     ensures { result ≡ spot_for style (arrays_in table.now) e.now }
@@ -44,6 +45,7 @@ fn spot_over(style: Style, e: &[u16], table: &[u16]) -> Spot
 }
 
 // Which middle ports the inner points take, or 25. Straight lines take none: nothing is tested, and any index does.
+#[tactic(auto, unfolding(store_tables::specs::Tables::arrays_in))]
 fn ports_over(style: Style, e: &[u16], table: &[u16], p: Spot) -> Ports
     requires { Runs e.now (arrays_in table.now) × Small p × Full table.now }
     ensures { let a = arrays_in table.now in let es = e.now in
@@ -56,6 +58,7 @@ fn ports_over(style: Style, e: &[u16], table: &[u16], p: Spot) -> Ports
 }
 
 // Adds a point with the entries e as its earlier neighbours, or refuses and leaves the table as it is.
+#[tactic(auto, unfolding(store_tables::specs::Tables::arrays_in))]
 pub fn add(table: &mut [u16], c: Counts, e: &[u16]) -> Added
     requires { Ready (arrays_in table.old) c × Full table.old }
     ensures { Answered (arrays_in table.old) c e.now (arrays_in table.new) result }
