@@ -6,4 +6,3 @@ pub mod Members
 pub mod Named
 pub mod SameNet
 pub mod Theorem
-pub mod Sizes

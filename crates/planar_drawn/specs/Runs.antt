@@ -3,7 +3,6 @@ use Rattle.std.specs.Prelude.{ℕ, suc, ◌+◌, ◌<◌, ◌≡◌, List, [], �
 use Rattle.std.proofs.Common.{ap, sym, ◌∙◌, append_assoc, arith, length-append, get_or-append-add, take_at, drop_at}
 use Rattle.std.proofs.Math.ListN.{get_or-append}
 use Rattle.planar_order.specs.Model.{Over}
-use Rattle.planar_order.proofs.Model.{over_whole}
 
 module _ {k : ℕ} {old run new : List ℕ} (o : Over k old run new) where
   -- the run is from l to r on the old boundary
@@ -49,11 +48,3 @@ module _ {k : ℕ} {old run new : List ℕ} (o : Over k old run new) where
       back =
           ap (drop right_at) (o.old_is ∙ sym (append_assoc o.before (o.left ∷ o.inner) (o.right ∷ o.after))) ∙
           drop_at (o.before ++ (o.left ∷ o.inner)) _ right_at (omega (arith, length-append o.before (o.left ∷ o.inner)))
-
--- point 3 stands over points 1 and 2
-pub over_pair : {run new : List ℕ} → Over 3 (1 ∷ 2 ∷ []) run new → (run ≡ 1 ∷ 2 ∷ []) × (new ≡ 1 ∷ 3 ∷ 2 ∷ [])
-over_pair o =
-    (over_whole o (omega (arith, old_length o, new_length o)), new_at o ∙ between (left_at o) (right_at o) (omega (arith, old_length o)) (omega (arith, old_length o)))
-  where
-    between : (l r : ℕ) → l ≡ 0 → r ≡ 1 → ◌++◌ {A = ℕ} (take (suc l) (1 ∷ 2 ∷ [])) (3 ∷ drop r (1 ∷ 2 ∷ [])) ≡ 1 ∷ 3 ∷ 2 ∷ []
-    between l r e f = rw (e, f)

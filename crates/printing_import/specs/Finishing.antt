@@ -12,7 +12,7 @@ use Rattle.printing_line.specs.Putting.{Printed}
 use Rattle.printing.specs.Began.{Began}
 use Rattle.planar_rules.specs.PlanarCode.{most_vertices, Import, imported, list_of}
 use Rattle.planar_rules.specs.Programs.{longest_import, import_program, vertex_lines, vertices_program}
-use Rattle.planar_drawn.specs.Sizes.{order_most, list_most}
+use Rattle.planar_drawn.proofs.Sizes.{order_most, list_most}
 use Rattle.planar.specs.Outcome.{Fills, Imports}
 
 -- ---- what is printed

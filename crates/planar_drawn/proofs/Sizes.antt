@@ -13,7 +13,8 @@ use Rattle.planar_rules.specs.Programs.{longest_net, longest_import, import_prog
 use Rattle.planar_sphere.specs.Count.{clash}
 use Rattle.planar_order.specs.File.{all_lists, four, byte}
 use Rattle.planar_order.proofs.Theorem.{valid, always, order-length, list_length}
-use Rattle.planar_drawn.specs.Theorem.{Passed, import_passed, import_drawable}
+use Rattle.planar_drawn.specs.Theorem.{Passed}
+use Rattle.planar_drawn.proofs.Theorem.{import_passed, import_drawable}
 
 -- v lists are v zeros and their places
 lists_length : (n v : ℕ) (bs : List ℕ) → lists? n v bs ≡ true → length bs ≡ v + length (neighbours bs)
