@@ -1,5 +1,5 @@
 -- `write_drawing` meets its contract: header, points, lines and end mark, one behind the other, are the drawing file.
-use Rattle.std.specs.Prelude.{ℕ, ◌≡◌, ◌*◌, ◌<◌}
+use Rattle.std.specs.Prelude.{◌*◌, ◌<◌}
 use Rattle.std.proofs.Common.{arith}
 use Rattle.store_tables.specs.Tables.{arrays_in, region-long, ys_r}
 use Rattle.words.specs.Writing.{stored-filled}

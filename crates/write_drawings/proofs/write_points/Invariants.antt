@@ -1,14 +1,10 @@
 -- `write_points` meets its contract: after i turns the records of the first i points are there.
-use Prim.Native.Nat.{◌-◌, ◌*◌, ◌<◌, ◌≤◌}
-use mathlib.Core.Path.{◌≡◌, refl, ◌∙◌}
-use native.Mathlib.Omega.{arith}
-use borrow.Author.Rules.{rules}
+use Prim.Native.Nat.{◌-◌, ◌≤◌}
+use mathlib.Core.Path.{◌≡◌}
 use lib.ListN.{length}
-use Rattle.rules.specs.Records.{head_size, place_size}
+use Rattle.rules.specs.Records.{head_size}
 use Rattle.write_drawings.specs.Lists.{several, point_bytes}
-use Rattle.write_drawings.proofs.Written.{point-stored}
 use Rattle.words.specs.Writing.{Stored}
-use Rattle.write_drawings.specs.Stores.{none_stored, record_behind}
 use Rattle.write_drawings.proofs.write_points.Given as goal
 
 abbrev pub invariant-loop-i : goal.invariant-loop-i
