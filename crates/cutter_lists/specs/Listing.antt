@@ -1,6 +1,6 @@
 -- Moves in two buffers: a kind and two f32 a move.
 use Rattle.std.specs.Prelude.{ℕ, suc, ◌+◌, ◌*◌, ◌<◌, ◌≤◌, ◌≡◌, refl, List, [], ◌∷◌, ◌++◌, length, get_or, take, set, Float}
-use Rattle.std.proofs.Common.{sym, ap, ◌∙◌, subst, append-nil, append_assoc, arith, add-one, length-append, take-suc, take_all, length-take-le}
+use Rattle.std.proofs.Common.{sym, ap, ◌∙◌, append-nil, append_assoc, arith, add-one, length-append, take-suc, take_all}
 use Rattle.std.proofs.lemmas.List.Edits.{sets}
 use Rattle.rules.specs.Moves.{Move as WholeMove, lift}
 use Rattle.words.specs.Writing.{Stored, stored_none, behind, length-stored}

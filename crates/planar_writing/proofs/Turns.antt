@@ -5,8 +5,8 @@ use mathlib.Core.List.{List, [], ◌∷◌, ◌++◌, map}
 use native.Mathlib.Omega.{arith}
 use native.Mathlib.Nat.{zero-add}
 use native.Mathlib.Numerals.{add-one}
-use lib.ListN.{length, get_or, take, drop, set, length-map, length-append, length-take, length-drop, drop_of_length-le}
-use lib.Seq.{drop-cons, drop-drop, get_or-take, get_or-drop, length-take-le, sets}
+use lib.ListN.{length, get_or, take, drop, set, length-map, length-append, length-drop, drop_of_length-le}
+use lib.Seq.{drop-cons, drop-drop, get_or-take, length-take-le}
 use Rattle.words.specs.Bytes.{with_word}
 use Rattle.words.specs.Writing.{Pasted, Stored, stored_next, Ahead, ahead_all, ahead_as, ahead_word, ahead-part, ahead_none}
 use Rattle.planar_numbering.specs.Points.{Fitting}
