@@ -11,14 +11,10 @@ use Rattle.answers.specs.declared.LineSeen.TheVariants as Seen
 use Rattle.answers.specs.declared.CutSeen.{CutSeen}
 use Rattle.answers.specs.declared.CutSeen.TheVariants as Cut
 use Rattle.answers.specs.declared.Written.{Written}
-use Rattle.answers.specs.declared.Written.TheVariants as Written
 use Rattle.tool.specs.Showing.{move_kind, move_numbers}
 use Rattle.answers.specs.declared.Moved.{Moved}
-use Rattle.answers.specs.declared.Moved.TheVariants as Moved
 use Rattle.answers.specs.declared.Listed.{Listed}
-use Rattle.answers.specs.declared.Listed.TheVariants as Listed
 use Rattle.answers.specs.declared.Imported.{Imported}
-use Rattle.answers.specs.declared.Imported.TheVariants as Imported
 use Rattle.panel_words.specs.Words.{no_buffer, output_buffer, numbers_buffer, vertices_buffer, bend_kind, port_of}
 use Rattle.panel_told.specs.Telling.{Given, with_words, alone}
 

@@ -26,7 +26,6 @@ use Rattle.store_laws.specs.Spots.{Bounded, bounded}
 use Rattle.store_laws.specs.Step.{lines_fit}
 use Rattle.store_judging.specs.Passed.{within_up}
 use Rattle.store_placing.specs.declared.Ports.{Ports}
-use Rattle.store_placing.specs.declared.Ports.TheVariants as Ports
 use Rattle.store_placing.specs.Ports.{from_told, none_told}
 use Rattle.store_placing.specs.Small.{Small}
 use Rattle.store_calls.specs.Storable.{Storable}

@@ -62,7 +62,6 @@ fn hang(x: &mut [u16; POINTS], gap: &[u16], owner: &[u16], k: usize)
 }
 
 // The x of every placed point.
-#[tactic(auto, unfolding(store_tables::specs::Tables::arrays_in))]
 pub fn settle(x: &mut [u16; POINTS], table: &[u16], k: usize)
     requires { Settleable x.old (arrays_in table.now) k × Full table.now }
     ensures { Settled x.new (arrays_in table.now) k }

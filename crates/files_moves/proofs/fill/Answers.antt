@@ -1,5 +1,5 @@
 -- What is to be printed lies within the page, and is that of the words read.
-use Rattle.std.proofs.Common.{◌≡◌, ◌≤◌, length, take}
+use Rattle.std.proofs.Common.{take}
 use Rattle.printing.specs.Began.{began_itself}
 use Rattle.files_moves.proofs.fill.Goals as goal
 

@@ -1,4 +1,4 @@
--- `bend_of` meets its contract: the four cases of `bend_in`.
+-- The four cases of `bend_in`.
 use Rattle.store_settling.specs.Bends.{left_fits, left_in, right_fits, right_in, middle_fits, middle_in, straight_in}
 use Rattle.store_settling.proofs.bend_of.Goals as goal
 

@@ -1,8 +1,10 @@
 -- `walk` meets its contract: what is left to walk with the x of now gives what all gives with the x at entry.
-use mathlib.Core.Path.{◌≡◌}
-use Prim.Native.Nat.{◌<◌}
-use lib.ListN.{length, get_or}
-use Rattle.store_settling.specs.Walk.{walked, Walks}
+use mathlib.Core.Path.{◌≡◌, refl, sym, ◌∙◌}
+use Prim.Native.Nat.{suc, ◌+◌, ◌-◌, ◌<◌}
+use native.Mathlib.Omega.{arith}
+use lib.ListN.{length, get_or, length-set}
+use borrow.Author.Rules.{rules}
+use Rattle.store_settling.specs.Walk.{walked, Walks, walked-past, walked_none, walked-go, walks-go}
 use Rattle.store_settling.proofs.walk.Given as goal
 
 abbrev pub invariant-loop-left : goal.invariant-loop-left

@@ -1,0 +1,19 @@
+-- `look_line` meets its contract: the line read from the arrays is the drawing's, and bends where the rules say, or nowhere.
+use Rattle.store_tables.specs.Tables.{table_long}
+use Rattle.store_looking.specs.Lines.{line-bends, line_seen_lem, straight_seen}
+use Rattle.store_looking.proofs.look_line.Goals as goal
+
+pub bend_of-at-requires : goal.bend_of-at-requires
+bend_of-at-requires c =
+    let h = c.requires.0.holds in
+    rw (c.broad-to.ensures, c.broad-from.ensures)
+    (line-bends h c.requires.1 c.args.e c.if-c-e.false c.line_in-l.result c.line_in-l.ensures, table_long _ h.sized)
+
+pub returns-in_default : goal.returns-in_default
+returns-in_default c =
+    λ q h. straight_seen h c.requires.1 c.args.e c.if-c-e.false c.line_in-l.result c.line_in-l.ensures c.in_default.is
+
+pub returns : goal.returns
+returns c =
+    λ q h. rw (c.bend_of-at.ensures, c.broad-to.ensures, c.broad-from.ensures)
+    (line_seen_lem h c.requires.1 c.args.e c.if-c-e.false c.line_in-l.result c.line_in-l.ensures c.in-OneBend.is)

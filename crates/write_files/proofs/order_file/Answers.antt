@@ -1,0 +1,6 @@
+-- `order_file` meets its contract.
+use Rattle.write_files.specs.Finishing.{late, whole_late}
+use Rattle.write_files.proofs.order_file.Goals as goal
+
+pub returns : goal.returns
+returns c = λ q r t. rw (late t _ c.if-counts.false) (c.put_order.ensures _ (whole_late t r c.if-counts.false) t)
