@@ -12,7 +12,6 @@ use Rattle.store_links.specs.Arrays.{Arrays}
 use Rattle.store_laws.specs.Adding.{Holds}
 use Rattle.words.specs.Writing.{stored-filled}
 use Rattle.answers.specs.declared.Listed.{Listed}
-use Rattle.answers.specs.declared.Listed.TheVariants as Listed
 use Rattle.answers.specs.Told.{told_listed, listed_for}
 use Rattle.cutter_lines.specs.declared.Groove.{Groove}
 use Rattle.cutter_lines.specs.Grooves.{groove_moves, total}

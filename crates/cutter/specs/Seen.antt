@@ -1,10 +1,10 @@
 -- What the calls answer, against the rules: a move in f32 with no error, or the same refusal; and how many moves there are.
-use Rattle.std.specs.Prelude.{ℕ, ◌-◌, ◌<◌, ◌≤◌, ◌≡◌, refl, true, length, get_or, ltb}
+use Rattle.std.specs.Prelude.{ℕ, ◌-◌, ◌<◌, ◌≤◌, ◌≡◌, refl, length, get_or, ltb}
 use Rattle.std.proofs.Common.{arith, sym, ap, subst, ◌∙◌, lt-ltb, le-ltb}
 use Rattle.rules.specs.declared.Refusal.TheVariants.{BadTool, Unfinished, NoSuch}
 use Rattle.rules.specs.Refusals.{Result, good, Told, gives, refused_with, told, ◌>>◌, refuse_if}
 use Rattle.rules.specs.Points.{Drawing as Plan, line_at}
-use Rattle.rules.specs.Moves.{Tool as WholeTool, Move as WholeMove, is_tool, lift, moves_of, all_moves, move_at}
+use Rattle.rules.specs.Moves.{Tool as WholeTool, Move as WholeMove, lift, moves_of, all_moves, move_at}
 use Rattle.rules.proofs.Dwelling.{has_pitch}
 use Rattle.store_links.specs.declared.Counts.{Counts}
 use Rattle.store_links.specs.Arrays.{Arrays}
@@ -13,12 +13,11 @@ use Rattle.tool.specs.declared.Tool.{Tool}
 use Rattle.tool.specs.declared.Numbers.{Numbers}
 use Rattle.tool.specs.declared.Move.{Move}
 use Rattle.tool.specs.declared.Checked.TheVariants.{Good, Bad}
-use Rattle.tool.specs.Checking.{whole_tool, tool_of, checked_of}
+use Rattle.tool.specs.Checking.{whole_tool, checked_of}
 use Rattle.tool.specs.Showing.{IsMove}
 use Rattle.tool.specs.Laws.{good-tool}
 use Rattle.tool.specs.Laws as Laws
 use Rattle.answers.specs.declared.Moved.{Moved}
-use Rattle.answers.specs.declared.Moved.TheVariants as Moved
 use Rattle.answers.specs.declared.Counted.TheVariants as Counted
 use Rattle.answers.specs.Told.{told_move, told_count}
 use Rattle.cutter_lines.specs.declared.Groove.{Groove}

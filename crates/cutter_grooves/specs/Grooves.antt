@@ -1,5 +1,5 @@
 -- A line of a drawing as it is cut: its moves are those that the rules give.
-use Rattle.std.specs.Prelude.{ℕ, ◌*◌, ◌≤◌, ◌≡◌, refl, List, [], ◌∷◌, length}
+use Rattle.std.specs.Prelude.{◌*◌, ◌≤◌, ◌≡◌, refl, List, [], ◌∷◌, length}
 use Rattle.std.proofs.Common.{sym, ap, ◌∙◌, arith, length-append}
 use Rattle.rules.specs.declared.Style.{Style}
 use Rattle.rules.specs.declared.Style.TheVariants.{OneBend, Straight}
@@ -7,7 +7,7 @@ use Rattle.rules.specs.declared.Line.{Line}
 use Rattle.rules.specs.declared.Place.{Place}
 use Rattle.rules.specs.Points.{Drawing as Plan, place_of}
 use Rattle.rules.specs.Ports.{bend_place}
-use Rattle.rules.specs.Moves.{Tool as WholeTool, Move as WholeMove, line_moves, without_dwelling, moves_of, moves_over, repeated}
+use Rattle.rules.specs.Moves.{Tool as WholeTool, line_moves, without_dwelling, moves_of, moves_over, repeated}
 use Rattle.rules.proofs.Dwelling.{straight-bent}
 use Rattle.cutter_lines.specs.declared.Groove.{Groove}
 use Rattle.cutter_lines.specs.Grooves.{groove_moves, total}

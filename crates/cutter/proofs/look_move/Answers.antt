@@ -1,5 +1,5 @@
 -- `look_move` meets its contract: the three refusals in order, and the move.
-use Rattle.std.proofs.Common.{◌≡◌, ◌≤◌, sym, arith}
+use Rattle.std.proofs.Common.{◌≡◌, ◌≤◌, sym}
 use Rattle.tool.specs.declared.Tool.{Tool}
 use Rattle.tool.specs.declared.Numbers.{Numbers}
 use Rattle.tool.specs.declared.Checked.TheVariants.{Good}

@@ -1,5 +1,5 @@
 -- `look_moves` meets its contract: the refusals in order, and all moves.
-use Rattle.std.proofs.Common.{◌≡◌, sym, ap, arith, length}
+use Rattle.std.proofs.Common.{sym, ap, arith, length}
 use Rattle.rules.specs.Moves.{Tool as WholeTool, all_moves}
 use Rattle.tool.specs.Checking.{whole_tool}
 use Rattle.tool.specs.Laws.{good-tool, bad_tool}

@@ -39,13 +39,13 @@ pub place_of-later-requires : goal.place_of-later-requires
 place_of-later-requires c =
     let h = c.requires.0.came.is in
     let p = ends h c.args.e c.requires.1 c.line_of-l.result (c.line_of-l.ensures ∙ line_seen_lem h c.args.e c.requires.1 c.look_line-seen.result (c.look_line-seen.ensures _ h)) in
-    (c.requires.0, p.0, p.1)
+    (c.requires.0, omega arith, omega arith)
 
 pub place_of-earlier-requires : goal.place_of-earlier-requires
 place_of-earlier-requires c =
     let h = c.requires.0.came.is in
     let p = ends h c.args.e c.requires.1 c.line_of-l.result (c.line_of-l.ensures ∙ line_seen_lem h c.args.e c.requires.1 c.look_line-seen.result (c.look_line-seen.ensures _ h)) in
-    (c.requires.0, p.2, p.3)
+    (c.requires.0, omega arith, omega arith)
 
 pub returns-clause-is : goal.returns-clause-is
 returns-clause-is c q h =
