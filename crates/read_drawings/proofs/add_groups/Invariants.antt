@@ -1,0 +1,19 @@
+-- `read_drawings::add_groups` meets its contract. The loop's invariant: the arrays hold a drawing from which the rest of the groups gives the whole result.
+use Prim.Native.Nat.{ℕ, ◌-◌}
+use mathlib.Core.Path.{◌≡◌, sym}
+use native.Mathlib.Omega.{arith}
+use lib.ListN.{length, length-replicate}
+use borrow.Author.Rules.{rules}
+use Rattle.rules.specs.Points.{Drawing}
+use Rattle.store_tables.specs.Tables.{arrays_in}
+use Rattle.store_laws.specs.Adding.{Holds}
+use Rattle.read_drawings.specs.Contracted.{rest_groups}
+use Rattle.read_drawings.proofs.Rests.{Going, going_start, going_on, stopped, all_answers, all_holds}
+use Rattle.read_drawings.proofs.add_groups.Given as goal
+
+abbrev pub invariant-loop-counts : goal.invariant-loop-counts
+invariant-loop-counts l =
+    (length l.e ≡ 3072) × ((d : Drawing) → Holds d (arrays_in l.initial.table) l.initial.counts → Going l.style l.f l.base l.total (rest_groups l.style l.f l.base l.total l.initial.counts d) (arrays_in l.table) l.counts)
+
+abbrev pub decreases-loop-counts : goal.decreases-loop-counts
+decreases-loop-counts l = l.counts.n - l.counts.k
