@@ -2,7 +2,6 @@
 use Rattle.std.specs.Prelude.{ℕ, ◌≡◌, List}
 use Rattle.rules.specs.declared.Answer.{Answer}
 use Rattle.rules.specs.declared.Answer.TheVariants.{Accepted}
-use Rattle.rules.specs.declared.Answer.TheVariants as Answer
 use Rattle.rules.specs.Refusals.{◌>>=◌}
 use Rattle.rules.specs.Points.{Drawing as Plan}
 use Rattle.rules.specs.DrawingFile.{write_drawing}

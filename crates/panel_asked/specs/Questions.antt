@@ -2,7 +2,6 @@
 use Rattle.std.specs.Prelude.{ℕ, ◌≡◌, List, Float}
 use Rattle.rules.specs.declared.Answer.{Answer}
 use Rattle.rules.specs.declared.Answer.TheVariants.{Accepted}
-use Rattle.rules.specs.declared.Answer.TheVariants as Answer
 use Rattle.rules.specs.Lookups.{look_point, look_line, LooksCut}
 use Rattle.rules.specs.Moves.{move_at}
 use Rattle.answers.specs.declared.PointSeen.{PointSeen}
@@ -15,7 +14,6 @@ use Rattle.answers.specs.Told.{point_seen, line_seen, told_cut}
 use Rattle.tool.specs.declared.Tool.{Tool}
 use Rattle.tool.specs.Checking.{whole_tool}
 use Rattle.answers.specs.declared.Moved.{Moved}
-use Rattle.answers.specs.declared.Moved.TheVariants as Moved
 use Rattle.store_links.specs.declared.Counts.{Counts}
 use Rattle.cutter.specs.Seen.{MoveSeen}
 use Rattle.panel_told.specs.Answers.{move_given, point_given, line_given, ends_given, cut_given}
