@@ -3,7 +3,7 @@ use Rattle.std.proofs.Common.{arith}
 use Rattle.rules.specs.OrderFile.{read_order}
 use Rattle.tool.specs.Checking.{whole_tool}
 use Rattle.panel_asked.specs.Read.{came-read, lists-read}
-use Rattle.printing_listed.specs.Counts.{order_roomy}
+use Rattle.printing_listed.proofs.Counts.{order_roomy}
 use Rattle.printing_moves.specs.Paging.{moves_in, within, shown}
 use Rattle.printing_moves.proofs.tool_page.Goals as goal
 
