@@ -22,7 +22,6 @@ use Rattle.store_tables.specs.Tables.{arrays_in}
 use Rattle.drawing.specs.View.{Is, Came}
 use Rattle.drawing.specs.Opens.{blank, Gives}
 use Rattle.answers.specs.declared.Written.{Written}
-use Rattle.answers.specs.declared.Written.TheVariants as Written
 use Rattle.write_files.specs.Outputs.{Wrote, Ended, turned}
 use Rattle.write_files.specs.Finishing.{ReachedIn}
 

@@ -1,14 +1,12 @@
 -- `read_drawings::add_groups` meets its contract. The loop's invariant: the arrays hold a drawing from which the rest of the groups gives the whole result.
-use Prim.Native.Nat.{ℕ, ◌-◌}
-use mathlib.Core.Path.{◌≡◌, sym}
-use native.Mathlib.Omega.{arith}
-use lib.ListN.{length, length-replicate}
-use borrow.Author.Rules.{rules}
+use Prim.Native.Nat.{◌-◌}
+use mathlib.Core.Path.{◌≡◌}
+use lib.ListN.{length}
 use Rattle.rules.specs.Points.{Drawing}
 use Rattle.store_tables.specs.Tables.{arrays_in}
 use Rattle.store_laws.specs.Adding.{Holds}
 use Rattle.read_drawings.specs.Contracted.{rest_groups}
-use Rattle.read_drawings.proofs.Rests.{Going, going_start, going_on, stopped, all_answers, all_holds}
+use Rattle.read_drawings.proofs.Rests.{Going}
 use Rattle.read_drawings.proofs.add_groups.Given as goal
 
 abbrev pub invariant-loop-counts : goal.invariant-loop-counts

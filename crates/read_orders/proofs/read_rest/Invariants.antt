@@ -1,11 +1,8 @@
 -- `read_orders::read_rest` meets its contract. The loop's invariant: the arrays hold a drawing from which the points that are left give what all of them give.
-use Prim.Native.Nat.{ℕ}
-use mathlib.Core.Path.{◌≡◌, sym}
-use lib.ListN.{length, length-replicate}
-use borrow.Author.Rules.{rules}
-use Rattle.store_links.specs.Arrays.{Arrays}
+use mathlib.Core.Path.{◌≡◌}
+use lib.ListN.{length}
 use Rattle.store_tables.specs.Tables.{arrays_in}
-use Rattle.read_orders.proofs.Turns.{Turn, falls, turn_first, turn-ready, turn_next, turn-refused, turn_end}
+use Rattle.read_orders.proofs.Turns.{Turn}
 use Rattle.read_orders.proofs.read_rest.Given as goal
 
 abbrev pub invariant-loop-left : goal.invariant-loop-left
