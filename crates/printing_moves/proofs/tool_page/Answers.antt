@@ -7,8 +7,8 @@ use Rattle.printing_listed.proofs.Counts.{order_roomy}
 use Rattle.printing_moves.specs.Paging.{moves_in, within, shown}
 use Rattle.printing_moves.proofs.tool_page.Goals as goal
 
-pub moves_from-requires : goal.moves_from-requires
-moves_from-requires c = λ e. came-read _ _ _ _ c.read_order-read.ensures e
+pub moves_from-listed-requires : goal.moves_from-listed-requires
+moves_from-listed-requires c = λ e. came-read _ _ _ _ c.read_order-read.ensures e
 
 pub finish-requires : goal.finish-requires
 finish-requires c =
