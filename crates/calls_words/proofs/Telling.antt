@@ -1,5 +1,8 @@
 -- The two words of a refusal, from what they were made of.
-use Rattle.std.proofs.Common.{ℕ, ◌+◌, ◌≡◌, List, set}
+use Prim.Native.Nat.{ℕ, ◌+◌}
+use mathlib.Core.Path.{◌≡◌}
+use mathlib.Core.List.{List}
+use lib.ListN.{set}
 use Rattle.rules.specs.declared.Answer.{Answer}
 use Rattle.rules.specs.declared.Answer.TheVariants.{Refused}
 use Rattle.rules.specs.declared.Refusal.{Refusal}

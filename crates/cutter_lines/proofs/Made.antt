@@ -1,5 +1,7 @@
 -- Document 01's five moves in f32 have no error.
-use Rattle.std.proofs.Common.{ℕ, ◌≤◌, ◌<◌, ◌≡◌, sym, subst, arith}
+use mathlib.Core.Path.{◌≡◌, sym, subst}
+use Prim.Native.Nat.{ℕ, ◌≤◌, ◌<◌}
+use native.Mathlib.Omega.{arith}
 use Rattle.tool.specs.declared.Numbers.{Numbers}
 use Rattle.tool.specs.declared.Move.{Move}
 use Rattle.tool.specs.Checking.{tool_of, InRange}

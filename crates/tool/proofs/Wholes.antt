@@ -7,6 +7,11 @@ use Rattle.std.specs.Float.{nan, inf, fin, binary32}
 use Rattle.std.specs.Float.Ieee.{up, down, eq, lt, of_int, to_unsigned}
 use Rattle.std.specs.Float.Ieee.Fits.{down_pos, and_l, and_r}
 use Rattle.std.specs.Float.Ieee.Exact.{HasValue}
+use native.Mathlib.Nat.{eq_of_mul-eq-mul_right}
+use mathlib.Core.Bool.{beq, and-true}
+use lib.Ieee.{Float, nan, inf, fin, binary32, up, down, eq, lt, of_int, to_unsigned}
+use lib.Ieee.Fits.{down_pos, and_l, and_r}
+use lib.Ieee.Exact.{HasValue}
 use Rattle.rules.specs.Basics.{between}
 use Rattle.tool.specs.declared.Tool.{Tool}
 use Rattle.tool.specs.declared.Checked.TheVariants.{Good, Bad}
