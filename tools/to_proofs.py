@@ -63,7 +63,7 @@ def main():
     t = open(plib).read() if os.path.exists(plib) else ""
     open(plib, "w").write(t + f"pub mod {module}\n")
     path = f"Rattle.{crate}.specs.{module}"
-    for p in glob.glob("crates/*/**/*.antt", recursive=True) + glob.glob("crates/*/src/*.rt") + glob.glob("/tmp/old/*/*/Proof.antt"):
+    for p in glob.glob("crates/*/**/*.antt", recursive=True) + glob.glob("crates/*/src/*.rt"):
         if "/out/" in p:
             continue
         t = open(p).read()

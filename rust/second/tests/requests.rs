@@ -260,3 +260,9 @@ fn every_case_of_request_4() {
     assert_eq!(cases.len(), 26);
     cases.iter().for_each(check_net);
 }
+
+// "Request 5: the cut line with the lowest number"
+#[test]
+fn every_case_of_request_5() {
+    assert_eq!(run_section(5), [0, 6, 32]);
+}
