@@ -65,12 +65,7 @@ fn blank() -> [u8; PAGE] {
 }
 
 // The moves program of a style, from a file that is open to a writer.
-pub fn moves<R: Read, W: Write, E: Env>(
-    style: Style,
-    from: &mut R,
-    to: &mut W,
-    env: &E,
-) -> Outcome
+pub fn moves<R: Read, W: Write, E: Env>(style: Style, from: &mut R, to: &mut W, env: &E) -> Outcome
     ensures { result ≡ Outcome.Written → IfSome (R.remaining from.old) (λ file. AppendsMoves style file (W.contents to.old) (W.contents to.new)) }
 {
     let mut order = [0u8; ORDER_INPUT];
