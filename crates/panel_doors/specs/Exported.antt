@@ -5,7 +5,6 @@ use Rattle.rules.specs.declared.Style.{Style}
 use Rattle.rules.specs.declared.Answer.TheVariants.{Accepted}
 use Rattle.rules.specs.Refusals.{Result, refused_with, told_answer, ◌>>=◌}
 use Rattle.rules.specs.Numbers.{never-gives}
-use Rattle.rules.specs.Points.{Drawing as Plan}
 use Rattle.rules.specs.Calls.{drawn}
 use Rattle.rules.specs.DrawingFile.{write_drawing}
 use Rattle.exchange.specs.Built.{Reached}
