@@ -1,7 +1,7 @@
 -- A number in decimal digits, as the programs print it: most significant digit first, no zero in front, in ASCII.
 use Rattle.std.specs.Prelude.{ℕ, zero, suc, ◌+◌, ◌-◌, ◌*◌, ◌/◌, ◌%◌, ◌≤◌, ◌<◌, ◌≡◌, refl, Bool, true, false, ◌&&◌, List, [], ◌∷◌, length, ltb, if◌then◌else◌}
 use Rattle.std.proofs.Common.{ap, ◌∙◌, arith, length-append, le-leb, lt-ltb, le-ltb, ltb-true, ltb-false}
-use Rattle.rules.specs.Basics.{snoc, head_of, all_of, between}
+use Rattle.rules.specs.Basics.{snoc, head_of, all_of}
 use Rattle.rules.specs.Decimal.{digit, digits_in, digits, value_from, is_digit}
 
 -- ---- it is decimal

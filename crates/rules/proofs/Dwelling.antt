@@ -1,6 +1,6 @@
 -- What wish 3 makes of the moves: no cut goes to where the cutter is, and a dwelling cut is all that is left out.
 use Rattle.std.specs.Prelude.{ℕ, ◌+◌, ◌*◌, ◌≤◌, ◌≡◌, refl, Bool, true, false, ◌&&◌, List, [], ◌∷◌, ◌++◌, length, eqb, if◌then◌else◌}
-use Rattle.std.proofs.Common.{sym, ap, ◌∙◌, subst, true≢false, append_assoc, eq-eqb, eqb-true, arith}
+use Rattle.std.proofs.Common.{sym, ap, ◌∙◌, subst, true≢false, append_assoc, eq-eqb, eqb-true}
 use Rattle.std.proofs.Math.Nat.{eq_of_mul-eq-mul_left, eq_of_mul-eq-mul_right}
 use Rattle.rules.specs.declared.Style.TheVariants.{OneBend, Straight}
 use Rattle.rules.specs.declared.Kind.{Kind}

@@ -1,9 +1,6 @@
 -- Worked cases of the lines of moves and of the words of the tool, by computing.
-use Rattle.std.specs.Prelude.{ℕ, ◌≡◌, refl, List, [], ◌∷◌, ◌++◌, map, zero, suc, ◌/◌, ◌%◌, ◌&&◌, ◌<◌, ◌≤◌, length, take, leb, if◌then◌else◌}
+use Rattle.std.specs.Prelude.{ℕ, ◌≡◌, refl, List, [], ◌∷◌, ◌++◌, map}
 use Rattle.std.proofs.Common.{ap, ◌∙◌, ◌++◌, lit<, lit≤}
-use Rattle.rules.specs.declared.Style.{Style}
-use Rattle.rules.specs.Basics.{between, all_of}
-use Rattle.rules.specs.Refusals.{good, ◌>>=◌}
 use Rattle.rules.specs.Basics.{snoc}
 use Rattle.rules.specs.Decimal.{digits}
 use Rattle.rules.proofs.Decimal.{digits_one, digits_more}

@@ -1,7 +1,6 @@
 -- A number in decimal digits, as the programs print it: most significant digit first, no zero in front, in ASCII.
-use Rattle.std.specs.Prelude.{ℕ, zero, suc, ◌+◌, ◌-◌, ◌*◌, ◌/◌, ◌%◌, Bool, List, [], ◌∷◌, ltb, if◌then◌else◌, ◌≤◌, ◌<◌, ◌≡◌, refl, true, false, ◌&&◌, length}
-use Rattle.rules.specs.Basics.{between, snoc, head_of, all_of}
-use Rattle.std.proofs.Common.{ap, ◌∙◌, arith, length-append, le-leb, lt-ltb, le-ltb, ltb-true, ltb-false}
+use Rattle.std.specs.Prelude.{ℕ, zero, suc, ◌+◌, ◌-◌, ◌*◌, ◌/◌, ◌%◌, Bool, List, [], ◌∷◌, ltb, if◌then◌else◌}
+use Rattle.rules.specs.Basics.{between, snoc}
 
 -- the ASCII code of a digit
 abbrev pub digit : ℕ → ℕ

@@ -1,5 +1,5 @@
 -- The program that prints the moves of an order file's drawing, one a line, in millimetres: `travel 1.25 0.5`, `plunge -0.375`, `cut 0 0`, `lift 0.625`.
-use Rattle.std.specs.Prelude.{ℕ, zero, suc, ◌/◌, ◌%◌, ◌&&◌, List, [], ◌∷◌, ◌++◌, length, take, if◌then◌else◌, ◌≡◌, refl, map, leb}
+use Rattle.std.specs.Prelude.{ℕ, zero, suc, ◌/◌, ◌%◌, ◌&&◌, List, [], ◌∷◌, ◌++◌, length, take, if◌then◌else◌}
 use Rattle.rules.specs.declared.Style.{Style}
 use Rattle.rules.specs.Basics.{between, all_of}
 use Rattle.rules.specs.Refusals.{good, ◌>>=◌}

@@ -2,8 +2,11 @@
 use Rattle.std.specs.Prelude.{ℕ, Bool, true, false}
 use Rattle.rules.specs.declared.Refusal.{Refusal}
 use Rattle.rules.specs.declared.Refusal.TheVariants.{FileEnds, WrongMark, OutOfRange, OtherStart, FewEntries, NotPlaced, Covered, NoRun, NotWhole, ExtraBytes, OtherDrawing, BadTool, BothMarks, BadCode, NoNet, Finished, Unfinished, NoSuch, OutputShort, NoReach}
+use Rattle.std.specs.Prelude.{Result as Outcome, Ok, Err}
+use Rattle.rules.specs.declared.Refused.{Refused}
 use Rattle.rules.specs.declared.Answer.{Answer}
-use Rattle.rules.specs.declared.Answer.TheVariants.{Accepted, Refused}
+use Rattle.rules.specs.declared.Answer.TheVariants.{Accepted}
+use Rattle.rules.specs.declared.Answer.TheVariants as Answers
 
 abbrev pub number : Refusal → ℕ
 number FileEnds = 1
@@ -56,7 +59,16 @@ placed p (refused r q) = refused r p
 -- the answer alone
 abbrev pub answer : {A : Type 0} → Result A → Answer
 answer (good a) = Accepted
-answer (refused r p) = Refused r p
+answer (refused r p) = Answers.Refused r p
+
+-- what the code answers: the value as f tells it, or the refusal and its place
+abbrev pub answer_with : {A B : Type 0} → (A → B) → Result A → Outcome B Refused
+answer_with f (good a) = Ok (f a)
+answer_with f (refused r p) = Err (record { refusal = r; place = p })
+
+-- the same of a test, which has no value to tell
+abbrev pub tested : {A : Type 0} → Result A → Outcome (Unit {0}) Refused
+tested r = answer_with (λ a. tt) r
 
 -- ---- an answer in this paper's numbers: what is given, or "number and place"
 
@@ -72,4 +84,4 @@ told (refused r p) = refused_with (number r) p
 -- what an answer without a value says
 abbrev pub told_answer : Answer → Told (Unit {0})
 told_answer Accepted = gives tt
-told_answer (Refused r p) = refused_with (number r) p
+told_answer (Answers.Refused r p) = refused_with (number r) p

@@ -2,6 +2,9 @@
 // What they mean is in specs/: document 01 as definitions.
 #![tactic(auto)]
 
+ghost use Rattle.std.specs.Prelude.{◌≡◌};
+ghost use Rattle.rules.specs.Refusals.{number};
+
 // "Every record begins with a two-byte mark." Those of an order file, those of a drawing file, and the end of both.
 pub const ORDER_MARK: u16 = 0x4844;
 
@@ -50,7 +53,7 @@ pub const LONGEST_ORDER: usize = 10 * MOST_POINTS - 2;
 pub const LONGEST_DRAWING: usize = 42 * MOST_POINTS - 60;
 
 // "Refused because of the input", then "Refused because of the state", in the order of their numbers.
-#[derive(Clone, Copy)]
+#[derive(Clone, Copy, Debug, PartialEq, Eq)]
 pub enum Refusal {
     FileEnds,
     WrongMark,
@@ -74,22 +77,59 @@ pub enum Refusal {
     NoReach,
 }
 
+// A refusal's number in document 01.
+impl From<Refusal> for u16 {
+    ghost from_gives = { λ r n. n ≡ number r };
+
+    fn from(r: Refusal) -> u16 {
+        match r {
+            Refusal::FileEnds => 1,
+            Refusal::WrongMark => 2,
+            Refusal::OutOfRange => 3,
+            Refusal::OtherStart => 4,
+            Refusal::FewEntries => 5,
+            Refusal::NotPlaced => 6,
+            Refusal::Covered => 7,
+            Refusal::NoRun => 8,
+            Refusal::NotWhole => 9,
+            Refusal::ExtraBytes => 10,
+            Refusal::OtherDrawing => 11,
+            Refusal::BadTool => 12,
+            Refusal::BothMarks => 13,
+            Refusal::BadCode => 14,
+            Refusal::NoNet => 15,
+            Refusal::Finished => 21,
+            Refusal::Unfinished => 22,
+            Refusal::NoSuch => 23,
+            Refusal::OutputShort => 24,
+            Refusal::NoReach => 25,
+        }
+    }
+}
+
+// "Number and place": why something is refused, and where.
+#[derive(Clone, Copy, Debug, PartialEq, Eq)]
+pub struct Refused {
+    pub refusal: Refusal,
+    pub place: usize,
+}
+
 // What a call answers: it is accepted, or refused with a place.
-#[derive(Clone, Copy)]
+#[derive(Clone, Copy, Debug, PartialEq, Eq)]
 pub enum Answer {
     Accepted,
     Refused(Refusal, usize),
 }
 
 // The two drawings: lines with one bend, or straight lines.
-#[derive(Clone, Copy)]
+#[derive(Clone, Copy, Debug, PartialEq, Eq)]
 pub enum Style {
     OneBend,
     Straight,
 }
 
 // Where a line bends: at a left, right or middle port, with the port's index, or nowhere.
-#[derive(Clone, Copy)]
+#[derive(Clone, Copy, Debug, PartialEq, Eq)]
 pub enum Bend {
     Left(u16),
     Right(u16),
@@ -98,14 +138,14 @@ pub enum Bend {
 }
 
 // What an entry says of its line: a guide isn't cut, a plain line is cut once, a feeder twice.
-#[derive(Clone, Copy)]
+#[derive(Clone, Copy, Debug, PartialEq, Eq)]
 pub enum Kind {
     Guide,
     Plain,
     Feeder,
 }
 
-#[derive(Clone, Copy)]
+#[derive(Clone, Copy, Debug, PartialEq, Eq)]
 pub struct Line {
     pub later: u16,
     pub earlier: u16,
@@ -114,21 +154,21 @@ pub struct Line {
 }
 
 // A place on the grid.
-#[derive(Clone, Copy)]
+#[derive(Clone, Copy, Debug, PartialEq, Eq)]
 pub struct Place {
     pub x: u16,
     pub y: u16,
 }
 
 // An entry of a call or of an order file: an earlier point, and the kind of the line to it.
-#[derive(Clone, Copy)]
+#[derive(Clone, Copy, Debug, PartialEq, Eq)]
 pub struct Entry {
     pub point: u16,
     pub kind: Kind,
 }
 
 // The reading of an entry's 16-bit number: an entry of one of the three kinds, or a point marked both guide and feeder.
-#[derive(Clone, Copy)]
+#[derive(Clone, Copy, Debug, PartialEq, Eq)]
 pub enum Reading {
     Given(Entry),
     Both(u16),
