@@ -1,8 +1,7 @@
 -- "What demand 3 means": a list of calls, from n and the entries alone.
 use Rattle.std.specs.Prelude.{ℕ, List, [], ◌∷◌}
 use Rattle.rules.specs.declared.Style.{Style}
-use Rattle.rules.specs.declared.Answer.{Answer}
-use Rattle.rules.specs.Refusals.{Result, good, refused, answer}
+use Rattle.rules.specs.Refusals.{Result, good, refused, Answer, answer}
 use Rattle.rules.specs.Points.{Drawing, opening}
 use Rattle.rules.specs.Adding.{add}
 
@@ -16,7 +15,7 @@ abbrev pub after : Drawing → List (List ℕ) → Drawing
 after d [] = d
 after d (call ∷ calls) = after (left d (add d call)) calls
 
-abbrev pub answers : Drawing → List (List ℕ) → List Answer
+abbrev pub answers : Drawing → List (List ℕ) → List (Answer (Unit {0}))
 answers d [] = []
 answers d (call ∷ calls) = answer (add d call) ∷ answers (left d (add d call)) calls
 
@@ -24,5 +23,5 @@ answers d (call ∷ calls) = answer (add d call) ∷ answers (left d (add d call
 abbrev pub drawn : Style → ℕ → List (List ℕ) → Drawing
 drawn style n calls = after (opening style n) calls
 
-abbrev pub said : Style → ℕ → List (List ℕ) → List Answer
+abbrev pub said : Style → ℕ → List (List ℕ) → List (Answer (Unit {0}))
 said style n calls = answers (opening style n) calls

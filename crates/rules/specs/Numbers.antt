@@ -1,11 +1,9 @@
 -- No two refusals have one number, so what is said in numbers says which answer it is.
-use Rattle.std.specs.Prelude.{ℕ, ◌≡◌, refl, eqb, if◌then◌else◌}
-use Rattle.std.proofs.Common.{ap, sym, ◌∙◌, arith}
+use Rattle.std.specs.Prelude.{ℕ, ◌≡◌, refl, Ok, Err, eqb, if◌then◌else◌}
+use Rattle.std.proofs.Common.{ap, ap₂, sym, ◌∙◌, arith}
 use Rattle.rules.specs.declared.Refusal.{Refusal}
 use Rattle.rules.specs.declared.Refusal.TheVariants.{FileEnds, WrongMark, OutOfRange, OtherStart, FewEntries, NotPlaced, Covered, NoRun, NotWhole, ExtraBytes, OtherDrawing, BadTool, BothMarks, BadCode, NoNet, Finished, Unfinished, NoSuch, OutputShort, NoReach}
-use Rattle.rules.specs.declared.Answer.{Answer}
-use Rattle.rules.specs.declared.Answer.TheVariants.{Accepted, Refused}
-use Rattle.rules.specs.Refusals.{number, Result, good, refused, answer, Told, gives, refused_with, told, told_answer, ◌>>◌}
+use Rattle.rules.specs.Refusals.{number, Result, Answer, refusal_at, good, refused, answer, Told, gives, refused_with, told, told_answer, ◌>>◌}
 
 -- the refusal that has a number
 abbrev refusal_of : ℕ → Refusal
@@ -65,11 +63,11 @@ pub same_refusal : {A : Type 0} (r s : Refusal) (p q : ℕ) → ◌≡◌ {A = T
 same_refusal r s p q h = (number_one r s cc, cc)
 
 -- an answer that says what the rules give is theirs
-pub answer_of : {A : Type 0} (o : Result A) (a : Answer) → told_answer a ≡ told (o >> good tt) → a ≡ answer o
-answer_of (good v) Accepted h = refl
-answer_of (good v) (Refused r p) h = absurd (never-gives h)
-answer_of (refused s q) Accepted h = absurd (never-gives (sym h))
-answer_of (refused s q) (Refused r p) h = let t = same_refusal {A = Unit {0}} r s p q h in cc
+pub answer_of : {A : Type 0} (o : Result A) (a : Answer (Unit {0})) → told_answer a ≡ told (o >> good tt) → a ≡ answer o
+answer_of (good v) (Ok t) h = refl
+answer_of (good v) (Err e) h = absurd (never-gives h)
+answer_of (refused s q) (Ok t) h = absurd (never-gives (sym h))
+answer_of (refused s q) (Err e) h = let t = same_refusal {A = Unit {0}} e.refusal s e.place q h in ap Err (ap₂ refusal_at t.0 t.1)
 
 -- and theirs says it
 pub answer-told : {A : Type 0} (o : Result A) → told_answer (answer o) ≡ told (o >> good tt)

@@ -4,9 +4,6 @@ use Rattle.rules.specs.declared.Refusal.{Refusal}
 use Rattle.rules.specs.declared.Refusal.TheVariants.{FileEnds, WrongMark, OutOfRange, OtherStart, FewEntries, NotPlaced, Covered, NoRun, NotWhole, ExtraBytes, OtherDrawing, BadTool, BothMarks, BadCode, NoNet, Finished, Unfinished, NoSuch, OutputShort, NoReach}
 use Rattle.std.specs.Prelude.{Result as Outcome, Ok, Err}
 use Rattle.rules.specs.declared.Refused.{Refused}
-use Rattle.rules.specs.declared.Answer.{Answer}
-use Rattle.rules.specs.declared.Answer.TheVariants.{Accepted}
-use Rattle.rules.specs.declared.Answer.TheVariants as Answers
 
 abbrev pub number : Refusal → ℕ
 number FileEnds = 1
@@ -56,19 +53,21 @@ abbrev pub placed : {A : Type 0} → ℕ → Result A → Result A
 placed p (good a) = good a
 placed p (refused r q) = refused r p
 
--- the answer alone
-abbrev pub answer : {A : Type 0} → Result A → Answer
-answer (good a) = Accepted
-answer (refused r p) = Answers.Refused r p
+-- what the code answers: a value, or a refusal and its place
+abbrev pub Answer : Type 0 → Type 0
+Answer A = Outcome A Refused
 
--- what the code answers: the value as f tells it, or the refusal and its place
-abbrev pub answer_with : {A B : Type 0} → (A → B) → Result A → Outcome B Refused
+abbrev pub refusal_at : Refusal → ℕ → Refused
+refusal_at r p = record { refusal = r; place = p }
+
+-- its answer to what the rules give, whose value it tells by f
+abbrev pub answer_with : {A B : Type 0} → (A → B) → Result A → Answer B
 answer_with f (good a) = Ok (f a)
-answer_with f (refused r p) = Err (record { refusal = r; place = p })
+answer_with f (refused r p) = Err (refusal_at r p)
 
--- the same of a test, which has no value to tell
-abbrev pub tested : {A : Type 0} → Result A → Outcome (Unit {0}) Refused
-tested r = answer_with (λ a. tt) r
+-- the answer alone
+abbrev pub answer : {A : Type 0} → Result A → Answer (Unit {0})
+answer r = answer_with (λ a. tt) r
 
 -- ---- an answer in this paper's numbers: what is given, or "number and place"
 
@@ -81,7 +80,11 @@ abbrev pub told : {A : Type 0} → Result A → Told A
 told (good a) = gives a
 told (refused r p) = refused_with (number r) p
 
+-- what an answer says, whose value says f of it
+abbrev pub told_with : {A B : Type 0} → (A → B) → Answer A → Told B
+told_with f (Ok a) = gives (f a)
+told_with f (Err e) = refused_with (number e.refusal) e.place
+
 -- what an answer without a value says
-abbrev pub told_answer : Answer → Told (Unit {0})
-told_answer Accepted = gives tt
-told_answer (Answers.Refused r p) = refused_with (number r) p
+abbrev pub told_answer : Answer (Unit {0}) → Told (Unit {0})
+told_answer a = told_with (λ t. tt) a

@@ -1,8 +1,8 @@
 -- Laws of results: what an answer, a value and a refusal tell of the parts, and what becomes of the parts behind them.
-use Rattle.std.specs.Prelude.{ℕ, ◌≡◌, refl, Bool, true, false}
+use Rattle.std.specs.Prelude.{ℕ, ◌≡◌, refl, Bool, true, false, Ok, Err}
 use Rattle.std.proofs.Common.{ap, ◌∙◌, arith}
-use Rattle.rules.specs.declared.Answer.TheVariants.{Accepted, Refused}
 use Rattle.rules.specs.declared.Refusal.{Refusal}
+use Rattle.rules.specs.declared.Refused.{Refused}
 use Rattle.rules.specs.Refusals.{Result, good, refused, answer, ◌>>=◌, ◌>>◌, refuse_if, placed}
 
 -- a refusal is no value
@@ -20,25 +20,25 @@ pub record Value {A : Type 0} (o : Result A) : Type 0 where
   pub value : A
   pub is : o ≡ good value
 
-pub accepted : {A : Type 0} (o : Result A) → answer o ≡ Accepted → Value o
+pub accepted : {A : Type 0} (o : Result A) → answer o ≡ Ok tt → Value o
 accepted (good a) h = record { value = a; is = refl }
 accepted (refused r p) h = absurd (let z : ◌≡◌ {A = ℕ} 0 1 = cc in omega arith)
 
 -- tests that were accepted passed
-pub all_passed : (q : Result (Unit {0})) → answer q ≡ Accepted → q ≡ good tt
+pub all_passed : (q : Result (Unit {0})) → answer q ≡ Ok tt → q ≡ good tt
 all_passed q h = (accepted q h).is
 
 -- a refused one is that refusal
-pub refusing : {A : Type 0} (o : Result A) (r : Refusal) (p : ℕ) → answer o ≡ Refused r p → o ≡ refused r p
-refusing (good a) r p h = absurd (let z : ◌≡◌ {A = ℕ} 0 1 = cc in omega arith)
-refusing (refused s q) r p h = cc
+pub refusing : {A : Type 0} (o : Result A) (e : Refused) → answer o ≡ Err e → o ≡ refused e.refusal e.place
+refusing (good a) e h = absurd (let z : ◌≡◌ {A = ℕ} 0 1 = cc in omega arith)
+refusing (refused s q) e h = cc
 
 -- a refusal is the answer, whatever comes behind it
-pub stops : {A B : Type 0} (q : Result A) (z : Result B) (r : Refusal) (p : ℕ) → answer q ≡ Refused r p → answer q ≡ answer (q >> z)
-stops q z r p h = rw (refusing q r p h)
+pub stops : {A B : Type 0} (q : Result A) (z : Result B) (e : Refused) → answer q ≡ Err e → answer q ≡ answer (q >> z)
+stops q z e h = rw (refusing q e h)
 
 -- what follows is the answer, where nothing is refused before it
-pub goes_on : {A B : Type 0} (q : Result A) (z : Result B) → answer q ≡ Accepted → answer z ≡ answer (q >> z)
+pub goes_on : {A B : Type 0} (q : Result A) (z : Result B) → answer q ≡ Ok tt → answer z ≡ answer (q >> z)
 goes_on q z h = rw (accepted q h).is
 
 -- a value behind tests leaves their answer

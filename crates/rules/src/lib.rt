@@ -114,12 +114,8 @@ pub struct Refused {
     pub place: usize,
 }
 
-// What a call answers: it is accepted, or refused with a place.
-#[derive(Clone, Copy, Debug, PartialEq, Eq)]
-pub enum Answer {
-    Accepted,
-    Refused(Refusal, usize),
-}
+// What a call answers: that it is accepted, with a value where it has one, or its refusal and place.
+pub type Answer<T> = Result<T, Refused>;
 
 // The two drawings: lines with one bend, or straight lines.
 #[derive(Clone, Copy, Debug, PartialEq, Eq)]
