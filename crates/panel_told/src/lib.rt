@@ -9,7 +9,7 @@ ghost use Rattle.panel_told.specs.Answers.{file_given, move_words, list_given, s
 
 use answers::{LineSeen, NotImported, NotListed, Sizes};
 use panel_words::Buffer;
-use rules::{Answer, Line, Place, Refusal, Refused};
+use rules::{Answer, Line, Place, Refusal};
 use tool::Move;
 
 // A value that C is told: by a number, and by N words in the caller's array, which a number alone leaves.
@@ -143,20 +143,15 @@ pub fn tell_written(written: Answer<usize>, buffer: Buffer, refusal: &mut [u64; 
     tell(written, buffer, &mut [], refusal)
 }
 
-// "24 output too short", at place 0.
-const OUTPUT_SHORT: Refused = Refused {
-    refusal: Refusal::OutputShort,
-    place: 0,
-};
-
 // All moves: how many there are. 24 tells which of their two buffers is short; with another refusal 24 is of `buffer`.
 pub fn tell_listed(listed: Result<usize, NotListed>, buffer: Buffer, refusal: &mut [u64; 3]) -> u64
     ensures { (result ≡ code_of (list_given listed)) × (refusal.new ≡ refusal_of (short_for (buffer_number buffer) listed) (list_given listed)) }
 {
+    let short = Refusal::OutputShort.at(0);
     match listed {
         Ok(count) => tell_written(Ok(count), buffer, refusal),
-        Err(NotListed::KindsShort) => tell_written(Err(OUTPUT_SHORT), Buffer::Output, refusal),
-        Err(NotListed::NumbersShort) => tell_written(Err(OUTPUT_SHORT), Buffer::Numbers, refusal),
+        Err(NotListed::KindsShort) => tell_written(Err(short), Buffer::Output, refusal),
+        Err(NotListed::NumbersShort) => tell_written(Err(short), Buffer::Numbers, refusal),
         Err(NotListed::Refused(refused)) => tell_written(Err(refused), buffer, refusal),
     }
 }
@@ -165,10 +160,11 @@ pub fn tell_listed(listed: Result<usize, NotListed>, buffer: Buffer, refusal: &m
 pub fn tell_imported(imported: Result<Sizes, NotImported>, refusal: &mut [u64; 3]) -> u64
     ensures { (result ≡ code_of (import_given imported)) × (refusal.new ≡ refusal_of (import_short imported) (import_given imported)) }
 {
+    let short = Refusal::OutputShort.at(0);
     match imported {
         Ok(sizes) => tell_written(Ok(sizes.order), Buffer::None, refusal),
-        Err(NotImported::OrderShort) => tell_written(Err(OUTPUT_SHORT), Buffer::Output, refusal),
-        Err(NotImported::ListShort) => tell_written(Err(OUTPUT_SHORT), Buffer::Vertices, refusal),
+        Err(NotImported::OrderShort) => tell_written(Err(short), Buffer::Output, refusal),
+        Err(NotImported::ListShort) => tell_written(Err(short), Buffer::Vertices, refusal),
         Err(NotImported::Refused(refused)) => tell_written(Err(refused), Buffer::None, refusal),
     }
 }
