@@ -6,7 +6,7 @@ use Rattle.rules.specs.declared.Refusal.TheVariants.{FileEnds}
 use Rattle.rules.specs.Refusals.{Result, good, answer, refusal_at, ◌>>◌}
 use Rattle.rules.specs.Records.{several, bytes_in}
 use Rattle.read_records.specs.Cursors.{cursor, mark_at, plain_shape}
-use Rattle.read_records.specs.Marked.{record_test, record_tests, record_there, several-answer, mark-refused, cut_off, stands}
+use Rattle.read_records.specs.Marked.{record_test, record_tests, several-answer, mark-refused, cut_off, stands}
 
 -- the record at hand, then those behind it
 records-turn : (f : List ℕ) (mark size left here : ℕ) → 0 < left →

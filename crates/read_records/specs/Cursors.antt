@@ -1,7 +1,6 @@
 -- The bytes of a file from an offset on, and a record read there, by the file's length and the numbers in it.
 use Rattle.std.specs.Prelude.{ℕ, zero, suc, ◌+◌, ◌*◌, ◌<◌, ◌≤◌, ◌≡◌, refl, Bool, true, false, not, List, [], ◌∷◌, ◌++◌, length, take, drop, set, ltb, eqb, Ok, Err}
 use Rattle.std.proofs.Common.{ap, sym, ◌∙◌, add-one, arith, length-drop, drop-cons, drop-drop, get_or-drop, take-suc-set, lt-ltb, le-ltb, ltb-true, ltb-false}
-use Rattle.rules.specs.declared.Refusal.{Refusal}
 use Rattle.rules.specs.declared.Refusal.TheVariants.{FileEnds, WrongMark, ExtraBytes}
 use Rattle.rules.specs.declared.Refused.{Refused}
 use Rattle.rules.specs.Refusals.{Result, good, refused, answer, refusal_at, ◌>>◌, refuse_if}

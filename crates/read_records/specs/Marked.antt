@@ -5,7 +5,6 @@ use Rattle.std.proofs.Math.Path.{refl, ap}
 use Rattle.std.proofs.Common.{◌∙◌, add-one, length-drop, drop-cons, drop-drop}
 use native.Mathlib.Omega.{arith}
 use borrow.Author.Tests.{lt-ltb, le-ltb, ltb-true, ltb-false}
-use Rattle.rules.specs.declared.Refusal.{Refusal}
 use Rattle.rules.specs.declared.Refusal.TheVariants.{FileEnds}
 use Rattle.rules.specs.declared.Refused.{Refused}
 use Rattle.rules.specs.Refusals.{Result, good, refused, answer, ◌>>◌, ◌>>=◌, refuse_if}

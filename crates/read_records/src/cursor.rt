@@ -1,12 +1,14 @@
 // A place in the bytes of a file, and the records that are read there.
 ghost use Rattle.std.specs.Prelude.{◌≤◌, length};
 
-use rules::{Answer, END_MARK, END_SIZE, ENTRIES_MARK, NUMBER_SIZE, Refusal, Refused};
+use crate::Entries;
+use rules::{Answer, END_MARK, END_SIZE, ENTRIES_MARK, NUMBER_SIZE, Refusal};
 use words::word_at;
 
-use crate::Entries;
+// How many bytes a mark has.
+const MARK_SIZE: usize = 2;
 
-// The bytes of a file, and the offset of the next one to be read.
+// The bytes of a file, and the offset where the next record begins.
 #[derive(Clone, Copy)]
 pub struct Cursor<'a> {
     pub file: &'a [u8],
@@ -16,7 +18,7 @@ pub struct Cursor<'a> {
 
 impl<'a> Cursor<'a> {
     ghost use Rattle.std.specs.Prelude.{◌≡◌, ◌+◌, ◌*◌, take, drop};
-    ghost use Rattle.rules.specs.Refusals.{answer, refusal_at};
+    ghost use Rattle.rules.specs.Refusals.{answer};
     ghost use Rattle.rules.specs.Records.{words_in, several, read_end};
     ghost use Rattle.read_records.specs.Cursors.{cursor, mark_at, plain_shape};
     ghost use Rattle.read_records.specs.Reading.{NumberRead, EntriesRead};
@@ -40,25 +42,15 @@ impl<'a> Cursor<'a> {
         self.file.len() - self.at
     }
 
-    // A refusal at this place.
-    pub fn refused(&self, refusal: Refusal) -> Refused
-        ensures { result ≡ refusal_at refusal self.now.at }
-    {
-        Refused {
-            refusal,
-            place: self.at,
-        }
-    }
-
     // The mark of a record: 1 if fewer than two bytes are left, then 2.
     fn mark(&self, mark: u16) -> Answer<()>
         ensures { result ≡ answer (mark_at mark self.now.file.now self.now.at) }
     {
-        if self.left() < 2 {
-            return Err(self.refused(Refusal::FileEnds));
+        if self.left() < MARK_SIZE {
+            return Err(Refusal::FileEnds.at(self.at));
         }
         if word_at(self.file, self.at) != mark {
-            return Err(self.refused(Refusal::WrongMark));
+            return Err(Refusal::WrongMark.at(self.at));
         }
         Ok(())
     }
@@ -69,9 +61,9 @@ impl<'a> Cursor<'a> {
     {
         self.mark(mark)?;
         if self.left() < NUMBER_SIZE {
-            return Err(self.refused(Refusal::FileEnds));
+            return Err(Refusal::FileEnds.at(self.at));
         }
-        Ok(word_at(self.file, self.at + 2))
+        Ok(word_at(self.file, self.at + MARK_SIZE))
     }
 
     // A point's record: a count, and that many entries, as 16-bit numbers.
@@ -80,13 +72,13 @@ impl<'a> Cursor<'a> {
     {
         self.mark(ENTRIES_MARK)?;
         if self.left() < NUMBER_SIZE {
-            return Err(self.refused(Refusal::FileEnds));
+            return Err(Refusal::FileEnds.at(self.at));
         }
         let from = self.at + NUMBER_SIZE;
-        let count = usize::from(word_at(self.file, self.at + 2));
+        let count = usize::from(word_at(self.file, self.at + MARK_SIZE));
         let next = from + 2 * count;
         if self.file.len() < next {
-            return Err(self.refused(Refusal::FileEnds));
+            return Err(Refusal::FileEnds.at(self.at));
         }
         Ok(Entries { count, from, next })
     }
@@ -106,12 +98,12 @@ impl<'a> Cursor<'a> {
         requires { size ≤ 5 }
         ensures { result ≡ answer (several count (plain_shape mark size) (cursor self.now.file.now self.now.at)) }
     {
-        let bytes = 2 + 2 * size;
+        let bytes = MARK_SIZE + 2 * size;
         for i in 0..count {
             let record = self.moved_to(self.at + bytes * i);
             record.mark(mark)?;
             if record.left() < bytes {
-                return Err(record.refused(Refusal::FileEnds));
+                return Err(Refusal::FileEnds.at(record.at));
             }
         }
         Ok(())
@@ -122,9 +114,9 @@ impl<'a> Cursor<'a> {
         ensures { result ≡ answer (read_end (cursor self.now.file.now self.now.at)) }
     {
         self.mark(END_MARK)?;
-        let behind = self.moved_to(self.at + END_SIZE);
-        if behind.at < self.file.len() {
-            return Err(behind.refused(Refusal::ExtraBytes));
+        let behind = self.at + END_SIZE;
+        if behind < self.file.len() {
+            return Err(Refusal::ExtraBytes.at(behind));
         }
         Ok(())
     }

@@ -1,5 +1,6 @@
 -- `read_records::Cursor::records` meets its contract. The loop's invariant: the first i records are there.
-use Rattle.std.proofs.Common.{Err, ap, sym, ◌∙◌, arith}
+use Rattle.std.proofs.Common.{◌≡◌, Err, ap, sym, ◌∙◌, arith}
+use borrow.Author.Rules.{rules}
 use Rattle.read_records.proofs.Turns.{passed_none, stops_unmarked, stops_short, passed_more, passed_all}
 use Rattle.read_records.proofs.cursor.Cursor.records.Goals as goal
 
@@ -17,11 +18,12 @@ moved_to-record-requires c = c.loop-i.invariant.room
 
 pub returns-in_err-mark : goal.returns-in_err-mark
 returns-in_err-mark c =
-    c.from_residual.ensures ∙ stops_unmarked c.loop-i.invariant c.loop-i-test.true c.moved_to-record.ensures.same_file c.moved_to-record.ensures.place _ (sym c.mark.ensures ∙ c.in_err-mark.was)
+    let same : c.from_residual.result ≡ Err c.in_err-mark.field-0.0 = search rules in
+    same ∙ stops_unmarked c.loop-i.invariant c.loop-i-test.true c.moved_to-record.ensures.same_file c.moved_to-record.ensures.place _ (sym c.mark.ensures ∙ c.in_err-mark.was)
 
 pub returns-then-left-bytes : goal.returns-then-left-bytes
 returns-then-left-bytes c =
-    ap Err c.refused.ensures ∙
+    ap Err c.at.ensures ∙
     stops_short c.loop-i.invariant c.loop-i-test.true c.moved_to-record.ensures.same_file c.moved_to-record.ensures.place (sym c.mark.ensures ∙ c.in_ok-mark.was) (omega (arith, c.left.ensures))
 
 pub loop-i-preserved : goal.loop-i-preserved
