@@ -1,8 +1,8 @@
 -- A page that is being filled, as the struct `Page`: bytes put behind what stands there.
-use Rattle.std.specs.Prelude.{ℕ, ◌+◌, ◌-◌, ◌≤◌, ◌≡◌, List, ◌++◌, length, take, drop}
-use Rattle.std.proofs.Common.{ap, sym, ◌∙◌, arith, append_assoc, length-append, drop-drop}
+use Rattle.std.specs.Prelude.{ℕ, ◌+◌, ◌-◌, ◌≤◌, ◌≡◌, List, [], ◌++◌, length, take, drop}
+use Rattle.std.proofs.Common.{refl, ap, sym, ◌∙◌, arith, append_assoc, length-append, drop-drop}
 use Rattle.std.proofs.lemmas.List.Edits.{sets-eq}
-use Rattle.words.specs.Writing.{Stored, behind, length-stored, stored-filled}
+use Rattle.words.specs.Writing.{Stored, stored_none, behind, length-stored, stored-filled}
 use Rattle.printing_line.specs.declared.Page.{Page}
 use Rattle.printing_line.specs.Putting.{Printed}
 use borrow.Rule.Slice.PartMut.{put_mid}
@@ -18,6 +18,12 @@ pub record Grown (before : Page) (bytes : List ℕ) (after : Page) : Type 0 wher
   pub at : after.at ≡ before.at + length bytes
   pub fits : after.at ≤ length after.bytes.now
   pub is : Stored before.bytes.now before.at bytes after.bytes.now
+
+-- at most n bytes were put there
+pub record Within (before : Page) (n : ℕ) (after : Page) : Type 0 where
+  pub same : after.bytes.ghost_name ≡ before.bytes.ghost_name
+  pub size : length after.bytes.now ≡ length before.bytes.now
+  pub most : after.at ≤ before.at + n
 
 -- ---- laws
 
@@ -45,3 +51,7 @@ pub printed : {first last : Page} {buffer bytes after : List ℕ} → first.at �
 printed {last = last} {buffer} {bytes} {after} z b p e =
     let stands : Stored buffer 0 bytes after = rw (e, ← b, ← z) p.is in
     record { is = stored-filled (omega (arith, z, p.at, p.fits, ap length e, length-stored stands)) stands; size = omega (arith, z, p.at); fits = omega (arith, p.fits, ap length e) }
+
+-- nothing was put
+pub grown_none : (page : Page) → page.at ≤ length page.bytes.now → Grown page [] page
+grown_none page h = record { same = refl; size = refl; at = omega arith; fits = h; is = stored_none _ _ }
