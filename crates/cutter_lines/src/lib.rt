@@ -118,7 +118,8 @@ impl Groove {
 
     // Move `number`, from 0, of all that it gives.
     pub fn move_at(self, number: usize, by: Setting) -> Move
-        requires { (number < total self) × GrooveOnGrid self }
+        requires there { number < total self }
+        requires on_grid { GrooveOnGrid self }
         ensures { IsMove result (groove_move number by.scale by.tool self) }
     {
         let which = number % self.moves_each();
