@@ -1,6 +1,6 @@
 -- The net of a file, in arrays: what reading it gives.
 use Rattle.std.specs.Prelude.{ℕ, zero, suc, ◌+◌, ◌-◌, ◌<◌, ◌≤◌, ◌≡◌, ◌≢◌, refl, List, [], ◌∷◌, Option, Some, None, Bool, true, false, ◌&&◌, length, get_or, take, drop, eqb, ltb, leb, if◌then◌else◌}
-use Rattle.std.proofs.Common.{ap, sym, ◌∙◌, inl, inr, arith, add-one, eq-eqb, ne_eqb, lt-ltb, le-ltb, leb-true}
+use Rattle.std.proofs.Common.{ap, sym, ◌∙◌, inl, inr, arith, get_or-take, get_or-drop, add-one, eq-eqb, ne_eqb, lt-ltb, le-ltb, leb-true}
 use Rattle.std.proofs.Math.Path.{subst, fun_ext}
 use Rattle.std.proofs.Math.Decide.{ℕ_discrete, dec_lt}
 use Rattle.rules.specs.declared.Refusal.TheVariants.{BadCode, NoNet}
@@ -27,6 +27,10 @@ pub record Holding (file : List ℕ) (net : Net) : Type 0 where
 -- whom v's list names
 abbrev pub list_in : Net → ℕ → List ℕ
 list_in net v = take (get_or net.starts (v + 1) 0 - get_or net.starts v 0) (drop (get_or net.starts v 0) net.neighbours)
+
+-- its k-th
+pub list_at : (net : Net) (v k : ℕ) → k < get_or net.starts (v + 1) 0 - get_or net.starts v 0 → get_or (list_in net v) k 0 ≡ get_or net.neighbours (get_or net.starts v 0 + k) 0
+list_at net v k l = get_or-take _ (drop (get_or net.starts v 0) net.neighbours) k 0 l ∙ get_or-drop (get_or net.starts v 0) net.neighbours k 0
 
 -- the place of u in v's list, if there is one
 abbrev pub found_place : Flat → ℕ → ℕ → Option ℕ

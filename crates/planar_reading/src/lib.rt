@@ -170,7 +170,8 @@ impl Net {
     // Whom v's list names.
     pub fn list(&self, v: u8) -> &[u8]
         requires { v < self.now.n }
-        ensures { result.now ≡ list_in self.now v }
+        ensures list { result.now ≡ list_in self.now v }
+        ensures size { length result.now ≡ get_or self.now.starts (v + 1) 0 - get_or self.now.starts v 0 }
     {
         &self.neighbours[self.start(v)..self.end(v)]
     }
