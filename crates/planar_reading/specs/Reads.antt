@@ -200,3 +200,6 @@ found_none f v u e =
   where
     some_none : (d : ℕ) → ◌≡◌ {A = Option ℕ} (Some d) None → ⊥
     some_none d h = let z : ◌≡◌ {A = ℕ} 0 1 = cc in omega arith
+
+pub found_here : (f : Flat) (v u : ℕ) → place f v u < f.D → found_place f v u ≡ Some (place f v u)
+found_here f v u l = rw (lt-ltb (place f v u) f.D l)
