@@ -1,2 +1,3 @@
 pub mod Putting
 pub mod Numbers
+pub mod Pages

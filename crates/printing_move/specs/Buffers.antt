@@ -1,6 +1,6 @@
 -- Moves in two buffers, line by line.
-use Rattle.std.specs.Prelude.{ℕ, zero, suc, ◌+◌, ◌*◌, ◌≤◌, ◌<◌, ◌≡◌, refl, List, [], ◌∷◌, ◌++◌, length, take, get_or, Float}
-use Rattle.std.proofs.Common.{ap, sym, ◌∙◌, append-nil, append_assoc, arith, add-one, take-suc, take_all, get_or-take}
+use Rattle.std.specs.Prelude.{ℕ, zero, suc, ◌+◌, ◌*◌, ◌<◌, ◌≡◌, refl, List, [], ◌∷◌, ◌++◌, length, take, get_or, Float}
+use Rattle.std.proofs.Common.{ap, sym, ◌∙◌, append-nil, append_assoc, arith, add-one, take-suc, get_or-take}
 use Rattle.std.specs.Float.{nan}
 use Rattle.rules.specs.Moves.{Move, lift}
 use Rattle.rules.specs.MoveLines.{move_line, move_lines}
@@ -8,7 +8,8 @@ use Rattle.tool.specs.declared.Move.{Move as FloatMove}
 use Rattle.tool.specs.declared.Move.TheVariants.{Travel, Plunge, Cut, Lift}
 use Rattle.tool.specs.Showing.{in_floats, move_kind, move_numbers}
 use Rattle.tool.specs.Exact.{small_at}
-use Rattle.printing_line.specs.Putting.{Put, Printed, put_as, put_both, put-start}
+use Rattle.printing_line.specs.declared.Page.{Page}
+use Rattle.printing_line.specs.Pages.{Grown, grown_both}
 use Rattle.cutter_lists.specs.Listing.{kinds_of, numbers_of}
 use Rattle.printing_move.specs.Lines.{Told, Held}
 
@@ -59,10 +60,6 @@ lines_more [] m = append-nil (move_line m)
 lines_more (n ∷ ms) m = ap (λ (l : List ℕ). move_line n ++ l) (lines_more ms m) ∙ sym (append_assoc (move_line n) (move_lines ms) (move_line m))
 
 -- one line more
-pub lines_next : {page middle after : List ℕ} {at end : ℕ} (ms : List Move) (i : ℕ) → i < length ms → Put page 0 (move_lines (take i ms)) middle at → Put middle at (move_line (get_or ms i (lift 0))) after end →
-    Put page 0 (move_lines (take (i + 1) ms)) after end
-lines_next ms i h p q = put_as (sym (ap move_lines (ap (λ (k : ℕ). take k ms) (add-one i) ∙ take-suc ms i (lift 0) h) ∙ lines_more (take i ms) (get_or ms i (lift 0)))) (put_both p q)
-
--- all of them
-pub lines_all : {page after : List ℕ} {at : ℕ} (ms : List Move) (i : ℕ) → length ms ≤ i → at ≤ length page → Put page 0 (move_lines (take i ms)) after at → Printed page (move_lines ms) after at
-lines_all ms i h room p = let q = put_as (ap move_lines (take_all i ms h)) p in put-start (omega (arith, q.behind)) q
+pub lines_next : {page middle after : Page} (ms : List Move) (i : ℕ) → i < length ms → Grown page (move_lines (take i ms)) middle → Grown middle (move_line (get_or ms i (lift 0))) after →
+    Grown page (move_lines (take (i + 1) ms)) after
+lines_next ms i h p q = rw (add-one i, take-suc ms i (lift 0) h, lines_more (take i ms) (get_or ms i (lift 0))) (grown_both p q)

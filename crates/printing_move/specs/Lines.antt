@@ -1,15 +1,19 @@
 -- The lines of moves whose numbers are f32, as they are put into a page.
 use Rattle.std.specs.Prelude.{ℕ, zero, suc, ◌+◌, ◌*◌, ◌/◌, ◌≤◌, ◌<◌, ◌≡◌, refl, true, false, List, [], ◌∷◌, ◌++◌, length, take, Float}
-use Rattle.std.proofs.Common.{arith}
+use Rattle.std.proofs.Common.{ap, arith}
 use Rattle.std.specs.Float.Ieee.{neg}
 use Rattle.std.specs.Float.Ieee.Exact.{HasValue}
 use Rattle.rules.specs.Moves.{Move, travel, plunge, cut, lift}
 use Rattle.rules.specs.Decimal.{digits}
 use Rattle.rules.specs.MoveLines.{fraction, millimetres, move_line}
+use Rattle.tool.specs.declared.Move.{Move as FloatMove}
+use Rattle.tool.specs.declared.Move.TheVariants.{Travel, Plunge, Cut, Lift}
 use Rattle.tool.specs.Showing.{over_eight, in_floats, move_kind, move_numbers}
 use Rattle.tool.specs.Exact.{Small, AllSmall, exact, negated}
 use Rattle.printing_line.specs.Numbers.{digits_most}
-use Rattle.printing_line.specs.Putting.{Put, most_digits, put_both}
+use Rattle.printing_line.specs.declared.Page.{Page}
+use Rattle.printing_line.specs.Putting.{most_digits}
+use Rattle.printing_line.specs.Pages.{Grown, grown_both}
 use Rattle.cutter_lists.specs.Listing.{kinds_of, numbers_of}
 
 -- ---- bounds
@@ -45,23 +49,28 @@ pub record Eighths (x : Float) (r : ℕ) : Type 0 where
   pub small : r < limit
   pub is : (n : ℕ) → n < limit → HasValue x false n 8 → r ≡ n
 
--- two numbers of eighths and a line's end stand in the page
-abbrev pub PairLine : Float → Float → List ℕ → ℕ → List ℕ → ℕ → Type 0
-PairLine x y page at after end =
-    (a b : ℕ) → a < limit → b < limit → HasValue x false a 8 → HasValue y false b 8 → Put page at (millimetres a ++ (32 ∷ (millimetres b ++ (10 ∷ [])))) after end
+-- two numbers of eighths and a line's end were put into the page
+abbrev pub PairLine : Float → Float → Page → Page → Type 0
+PairLine x y page after =
+    (a b : ℕ) → a < limit → b < limit → HasValue x false a 8 → HasValue y false b 8 → Grown page (millimetres a ++ (32 ∷ (millimetres b ++ (10 ∷ [])))) after
 
 -- one
-abbrev pub HeightLine : Float → List ℕ → ℕ → List ℕ → ℕ → Type 0
-HeightLine z page at after end = (a : ℕ) → a < limit → HasValue z false a 8 → Put page at (millimetres a ++ (10 ∷ [])) after end
+abbrev pub HeightLine : Float → Page → Page → Type 0
+HeightLine z page after = (a : ℕ) → a < limit → HasValue z false a 8 → Grown page (millimetres a ++ (10 ∷ [])) after
 
--- the line of a move, whichever has this kind and these numbers
+-- the line of the move that m is, if its numbers are small
+abbrev pub MoveLine : FloatMove → Page → Page → Type 0
+MoveLine m page after = (w : Move) → Small w → m ≡ in_floats w → Grown page (move_line w) after
+
+-- m is the move that has this kind and these numbers, if there is one
+abbrev pub MoveOf : ℕ → Float → Float → FloatMove → Type 0
+MoveOf kind x y m = (w : FloatMove) → kind ≡ move_kind w → x ∷ y ∷ [] ≡ move_numbers w → m ≡ w
+
+-- the move of this kind and these numbers
 pub record Told (kind : ℕ) (x y : Float) (m : Move) : Type 0 where
   pub small : Small m
   pub kind_is : kind ≡ move_kind (in_floats m)
   pub numbers_are : x ∷ y ∷ [] ≡ move_numbers (in_floats m)
-
-abbrev pub MoveLine : ℕ → Float → Float → List ℕ → ℕ → List ℕ → ℕ → Type 0
-MoveLine kind x y page at after end = (m : Move) → Told kind x y m → Put page at (move_line m) after end
 
 -- the two buffers begin with these moves
 pub record Held (ms : List Move) (kinds : List ℕ) (numbers : List Float) : Type 0 where
@@ -94,40 +103,35 @@ first_of_lem e = cc
 second_of : {x y u v : Float} → x ∷ y ∷ [] ≡ u ∷ v ∷ [] → v ≡ y
 second_of e = cc
 
+-- a float that is n eighths, and one that is minus as many
+value_of : {x : Float} {n : ℕ} → n < limit → over_eight n ≡ x → HasValue x false n 8
+value_of {n = n} h e = rw e at (exact n h)
+
+value_under : {x : Float} {n : ℕ} → n < limit → neg (over_eight n) ≡ x → HasValue (neg x) false n 8
+value_under {n = n} h e = rw e at (negated (neg (over_eight n)) true n 8 (negated (over_eight n) false n 8 (exact n h)))
+
 -- A MOVE'S LINE: the word of its kind, and then its numbers
-module _ {kind : ℕ} {x y : Float} {page middle after : List ℕ} {at between end : ℕ} (m : Move) (t : Told kind x y m) where
-  pub travel_line : kind ≡ 1 → Put page at (116 ∷ 114 ∷ 97 ∷ 118 ∷ 101 ∷ 108 ∷ 32 ∷ []) middle between → PairLine x y middle between after end → Put page at (move_line m) after end
-  travel_line k w p = go m t
-    where
-      go : (m : Move) → Told kind x y m → Put page at (move_line m) after end
-      go (travel a b) t = let s = t.small in put_both w (p a b s.0 s.1 (rw (first_of_lem t.numbers_are) at (exact a s.0)) (rw (second_of t.numbers_are) at (exact b s.1)))
-      go (plunge z) t = absurd (omega (arith, t.kind_is))
-      go (cut a b) t = absurd (omega (arith, t.kind_is))
-      go (lift z) t = absurd (omega (arith, t.kind_is))
+module _ {page middle after : Page} where
+  pub travel_line : {x y : Float} → Grown page (116 ∷ 114 ∷ 97 ∷ 118 ∷ 101 ∷ 108 ∷ 32 ∷ []) middle → PairLine x y middle after → MoveLine (Travel x y) page after
+  travel_line word pair (travel a b) s e = let n = ap move_numbers e in grown_both word (pair a b s.0 s.1 (value_of s.0 (first_of_lem n)) (value_of s.1 (second_of n)))
+  travel_line word pair (plunge z) s e = absurd (omega (arith, ap move_kind e))
+  travel_line word pair (cut a b) s e = absurd (omega (arith, ap move_kind e))
+  travel_line word pair (lift z) s e = absurd (omega (arith, ap move_kind e))
 
-  pub plunge_line : kind ≡ 2 → Put page at (112 ∷ 108 ∷ 117 ∷ 110 ∷ 103 ∷ 101 ∷ 32 ∷ 45 ∷ []) middle between → HeightLine (neg x) middle between after end → Put page at (move_line m) after end
-  plunge_line k w p = go m t
-    where
-      go : (m : Move) → Told kind x y m → Put page at (move_line m) after end
-      go (travel a b) t = absurd (omega (arith, t.kind_is))
-      go (plunge z) t = put_both w (p z t.small (rw (first_of_lem t.numbers_are) at (negated (neg (over_eight z)) true z 8 (negated (over_eight z) false z 8 (exact z t.small)))))
-      go (cut a b) t = absurd (omega (arith, t.kind_is))
-      go (lift z) t = absurd (omega (arith, t.kind_is))
+  pub plunge_line : {z : Float} → Grown page (112 ∷ 108 ∷ 117 ∷ 110 ∷ 103 ∷ 101 ∷ 32 ∷ 45 ∷ []) middle → HeightLine (neg z) middle after → MoveLine (Plunge z) page after
+  plunge_line word height (travel a b) s e = absurd (omega (arith, ap move_kind e))
+  plunge_line word height (plunge z) s e = grown_both word (height z s (value_under s (first_of_lem (ap move_numbers e))))
+  plunge_line word height (cut a b) s e = absurd (omega (arith, ap move_kind e))
+  plunge_line word height (lift z) s e = absurd (omega (arith, ap move_kind e))
 
-  pub cut_line_lem : kind ≡ 3 → Put page at (99 ∷ 117 ∷ 116 ∷ 32 ∷ []) middle between → PairLine x y middle between after end → Put page at (move_line m) after end
-  cut_line_lem k w p = go m t
-    where
-      go : (m : Move) → Told kind x y m → Put page at (move_line m) after end
-      go (travel a b) t = absurd (omega (arith, t.kind_is))
-      go (plunge z) t = absurd (omega (arith, t.kind_is))
-      go (cut a b) t = let s = t.small in put_both w (p a b s.0 s.1 (rw (first_of_lem t.numbers_are) at (exact a s.0)) (rw (second_of t.numbers_are) at (exact b s.1)))
-      go (lift z) t = absurd (omega (arith, t.kind_is))
+  pub cut_line_lem : {x y : Float} → Grown page (99 ∷ 117 ∷ 116 ∷ 32 ∷ []) middle → PairLine x y middle after → MoveLine (Cut x y) page after
+  cut_line_lem word pair (travel a b) s e = absurd (omega (arith, ap move_kind e))
+  cut_line_lem word pair (plunge z) s e = absurd (omega (arith, ap move_kind e))
+  cut_line_lem word pair (cut a b) s e = let n = ap move_numbers e in grown_both word (pair a b s.0 s.1 (value_of s.0 (first_of_lem n)) (value_of s.1 (second_of n)))
+  cut_line_lem word pair (lift z) s e = absurd (omega (arith, ap move_kind e))
 
-  pub lift_line : (kind ≡ 1 → ⊥) → (kind ≡ 2 → ⊥) → (kind ≡ 3 → ⊥) → Put page at (108 ∷ 105 ∷ 102 ∷ 116 ∷ 32 ∷ []) middle between → HeightLine x middle between after end → Put page at (move_line m) after end
-  lift_line j k l w p = go m t
-    where
-      go : (m : Move) → Told kind x y m → Put page at (move_line m) after end
-      go (travel a b) t = absurd (j t.kind_is)
-      go (plunge z) t = absurd (k t.kind_is)
-      go (cut a b) t = absurd (l t.kind_is)
-      go (lift z) t = put_both w (p z t.small (rw (first_of_lem t.numbers_are) at (exact z t.small)))
+  pub lift_line : {z : Float} → Grown page (108 ∷ 105 ∷ 102 ∷ 116 ∷ 32 ∷ []) middle → HeightLine z middle after → MoveLine (Lift z) page after
+  lift_line word height (travel a b) s e = absurd (omega (arith, ap move_kind e))
+  lift_line word height (plunge z) s e = absurd (omega (arith, ap move_kind e))
+  lift_line word height (cut a b) s e = absurd (omega (arith, ap move_kind e))
+  lift_line word height (lift z) s e = grown_both word (height z s (value_of s (first_of_lem (ap move_numbers e))))

@@ -11,10 +11,9 @@ use Rattle.rules.specs.declared.Entry.{Entry}
 use Rattle.rules.specs.declared.Bend.{Bend}
 use Rattle.rules.specs.declared.Reading.{Reading}
 use Rattle.rules.specs.declared.Reading.TheVariants.{Given}
-use Rattle.rules.specs.declared.Answer.{Answer}
 use Rattle.rules.specs.declared.Refusal.TheVariants.{NoReach}
 use Rattle.rules.specs.Basics.{any_of}
-use Rattle.rules.specs.Refusals.{Result, good, refused, answer, ◌>>◌, refuse_if}
+use Rattle.rules.specs.Refusals.{Result, good, refused, answer, ◌>>◌, refuse_if, Answer}
 use Rattle.rules.specs.Entries.{point_limit, reading, read_entry, is_both, points_read}
 use Rattle.rules.specs.Readings.{entry_of, tests_with}
 use Rattle.rules.proofs.Readings.{entries-read, points-given, tests_of, judge_of, adding}
@@ -164,7 +163,7 @@ calls-plain d (call ∷ calls) h =
     let e : left (plainly d) (add (plainly d) (unmarked call)) ≡ plainly (left d (add d call)) = ap (left (plainly d)) one ∙ left_plain d (add d call) in
     let rest = calls-plain (left d (add d call)) calls h.1 in (
       ap (λ (d : Drawing). after d (map unmarked calls)) e ∙ rest.0,
-      ap₂ (λ (a : Answer) (l : List Answer). a ∷ l) (ap answer one ∙ answer-plain (add d call)) (ap (λ (d : Drawing). answers d (map unmarked calls)) e ∙ rest.1),
+      ap₂ (λ (a : Answer (Unit {0})) (l : List (Answer (Unit {0}))). a ∷ l) (ap answer one ∙ answer-plain (add d call)) (ap (λ (d : Drawing). answers d (map unmarked calls)) e ∙ rest.1),
     )
 
 -- Calls without their marks get the same answers, and the drawing with every line plain.

@@ -1,5 +1,5 @@
 -- Laws of results: what an answer, a value and a refusal tell of the parts, and what becomes of the parts behind them.
-use Rattle.std.specs.Prelude.{ℕ, ◌≡◌, refl, Bool, true, false, Ok, Err}
+use Rattle.std.specs.Prelude.{ℕ, ◌≡◌, refl, Bool, true, false, Result as Outcome, Ok, Err, IsErrAnd}
 use Rattle.std.proofs.Common.{ap, ◌∙◌, arith}
 use Rattle.rules.specs.declared.Refusal.{Refusal}
 use Rattle.rules.specs.declared.Refused.{Refused}
@@ -45,6 +45,11 @@ goes_on q z h = rw (accepted q h).is
 pub answer-then : {A B : Type 0} (t : Result A) (x : B) → answer (t >> good x) ≡ answer t
 answer-then (good u) x = refl
 answer-then (refused r p) x = refl
+
+-- a `?` hands on the error that it found
+pub handed_on : {T E : Type 0} (r : Outcome T E) (e : E) → IsErrAnd r (λ y. y ≡ e) → r ≡ Err e
+handed_on (Ok x) e h = absurd h
+handed_on (Err y) e h = ap Err h
 
 -- ---- what a value tells of the parts that gave it
 

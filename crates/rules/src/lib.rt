@@ -3,7 +3,7 @@
 #![tactic(auto)]
 
 ghost use Rattle.std.specs.Prelude.{◌≡◌};
-ghost use Rattle.rules.specs.Refusals.{number};
+ghost use Rattle.rules.specs.Refusals.{number, refusal_at};
 
 // "Every record begins with a two-byte mark." Those of an order file, those of a drawing file, and the end of both.
 pub const ORDER_MARK: u16 = 0x4844;
@@ -112,6 +112,18 @@ impl From<Refusal> for u16 {
 pub struct Refused {
     pub refusal: Refusal,
     pub place: usize,
+}
+
+impl Refusal {
+    // This refusal at a place.
+    pub fn at(self, place: usize) -> Refused
+        ensures { result ≡ refusal_at self place }
+    {
+        Refused {
+            refusal: self,
+            place,
+        }
+    }
 }
 
 // What a call answers: that it is accepted, with a value where it has one, or its refusal and place.

@@ -1,4 +1,5 @@
 -- The tests of one entry, and one turn of the loop along the links, on lists.
+use Rattle.std.specs.Prelude.{Err}
 use Prim.Native.Nat.{ℕ, ◌+◌, ◌-◌, ◌<◌}
 use mathlib.Core.Path.{◌≡◌, refl, sym, ap, ◌∙◌}
 use mathlib.Core.Bool.{not, ◌||◌}
@@ -9,10 +10,9 @@ use lib.ListN.{length, get_or, drop}
 use lib.Seq.{drop-cons}
 use lib.Dec.{ltb, eqb}
 use Rattle.rules.specs.declared.Refusal.TheVariants.{BothMarks, NotPlaced, Covered, NoRun}
-use Rattle.rules.specs.declared.Answer.TheVariants.{Refused}
 use Rattle.rules.specs.declared.Entry.{Entry}
 use Rattle.rules.specs.declared.Reading.TheVariants.{Given, Both}
-use Rattle.rules.specs.Refusals.{Result, good, ◌>>◌, refuse_if, answer}
+use Rattle.rules.specs.Refusals.{refusal_at, Result, good, ◌>>◌, refuse_if, answer}
 use Rattle.rules.specs.Entries.{read_entry}
 use Rattle.rules.proofs.Readings.{given_is}
 use Rattle.store_links.specs.Arrays.{at_point}
@@ -38,7 +38,7 @@ module _ (owner : List ℕ) (k i e : ℕ) where
       rw (g, q, at_point_lem owner p)
 
   -- 13: it is marked both
-  pub entry_both : (q : ℕ) → read_entry e ≡ Both q → Refused BothMarks i ≡ answer (entries_pass owner k i (e ∷ []))
+  pub entry_both : (q : ℕ) → read_entry e ≡ Both q → Err (refusal_at BothMarks i) ≡ answer (entries_pass owner k i (e ∷ []))
   entry_both q g = rw g
 
 -- 8 of entry i with point q, where point v is next, then the rest

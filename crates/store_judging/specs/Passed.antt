@@ -2,11 +2,10 @@
 use Rattle.std.specs.Prelude.{ℕ, zero, suc, ◌+◌, ◌<◌, ◌≤◌, ◌≡◌, refl, Bool, true, false, not, ◌||◌, List, [], ◌∷◌, length, get_or, drop, ltb, eqb}
 use Rattle.std.proofs.Common.{sym, ◌∙◌, le_trans, pos_of_ne-zero, add-one, arith, drop-cons, ltb-false}
 use Rattle.std.proofs.lemmas.Bool.{eqb-false}
-use Rattle.rules.specs.declared.Refusal.{Refusal}
+use Rattle.std.specs.Prelude.{Ok, Err}
+use Rattle.rules.specs.declared.Refused.{Refused}
 use Rattle.rules.specs.declared.Refusal.TheVariants.{BothMarks, NotPlaced, Covered}
-use Rattle.rules.specs.declared.Answer.{Answer}
-use Rattle.rules.specs.declared.Answer.TheVariants.{Accepted, Refused}
-use Rattle.rules.specs.Refusals.{Result, good, refused, ◌>>◌, refuse_if, answer}
+use Rattle.rules.specs.Refusals.{Answer, Result, good, refused, ◌>>◌, refuse_if, answer}
 use Rattle.rules.specs.Bools.{neither}
 use Rattle.rules.specs.Results.{accepted, refusing, tested}
 use Rattle.rules.specs.Entries.{read_entry, is_both}
@@ -55,12 +54,12 @@ entry-then owner k i e es = go (is_both (read_entry e)) (eqb (point_in e) 0 || l
     go false false true rest = refl
     go false false false rest = refl
 
-module _ (owner es : List ℕ) (k i w : ℕ) (more : i < length es) (is : w ≡ get_or es i 0) {said : Answer} (answers : said ≡ answer (entries_pass owner k i (w ∷ []))) where
+module _ (owner es : List ℕ) (k i w : ℕ) (more : i < length es) (is : w ≡ get_or es i 0) {said : Answer (Unit {0})} (answers : said ≡ answer (entries_pass owner k i (w ∷ []))) where
   turn : entries_pass owner k i (drop i es) ≡ (entries_pass owner k i (w ∷ []) >> entries_pass owner k (i + 1) (drop (i + 1) es))
   turn = rw (drop-cons es i 0 more, ← is, add-one) (entry-then owner k i w (drop (suc i) es))
 
-  pub entry-refused : (f : Refusal) (p : ℕ) → said ≡ Refused f p → entries_pass owner k i (drop i es) ≡ refused f p
-  entry-refused f p h = turn ∙ rw (refusing (entries_pass owner k i (w ∷ [])) f p (sym answers ∙ h))
+  pub entry-refused : (f : Refused) → said ≡ Err f → entries_pass owner k i (drop i es) ≡ refused f.refusal f.place
+  entry-refused f h = turn ∙ rw (refusing (entries_pass owner k i (w ∷ [])) f (sym answers ∙ h))
 
-  pub entry_passed : said ≡ Accepted → entries_pass owner k i (drop i es) ≡ entries_pass owner k (i + 1) (drop (i + 1) es)
+  pub entry_passed : said ≡ Ok tt → entries_pass owner k i (drop i es) ≡ entries_pass owner k (i + 1) (drop (i + 1) es)
   entry_passed h = turn ∙ rw (accepted (entries_pass owner k i (w ∷ [])) (sym answers ∙ h)).is

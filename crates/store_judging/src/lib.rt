@@ -9,63 +9,56 @@ ghost use Rattle.store_links.specs.Runs.{Within};
 
 use rules::{Answer, Reading, Refusal};
 use store_links::Counts;
-use words::{broad, point_of, split};
+use words::{point_of, split};
 
 // 13, 6 and 7 of entry i: it isn't marked both, its point is one of the k placed, and owned by nobody.
-pub fn judge_entry(e: u16, owner: &[u16], k: usize, i: usize) -> Answer
+pub fn judge_entry(e: u16, owner: &[u16], k: usize, i: usize) -> Answer<()>
     requires { (length owner.now ≡ 1024) × (k ≤ 1024) }
     ensures { result ≡ answer (entries_pass owner.now k i (e ∷ [])) }
 {
     let Reading::Given(x) = split(e) else {
-        return Answer::Refused(Refusal::BothMarks, i);
+        return Err(Refusal::BothMarks.at(i));
     };
-    let p = broad(x.point);
+    let p = usize::from(x.point);
     if p == 0 {
-        return Answer::Refused(Refusal::NotPlaced, i);
+        return Err(Refusal::NotPlaced.at(i));
     }
     if k < p {
-        return Answer::Refused(Refusal::NotPlaced, i);
+        return Err(Refusal::NotPlaced.at(i));
     }
     if owner[p - 1] != 0 {
-        return Answer::Refused(Refusal::Covered, i);
+        return Err(Refusal::Covered.at(i));
     }
-    Answer::Accepted
+    Ok(())
 }
 
 // 13, 6 and 7, entry by entry.
-fn judge_entries(e: &[u16], owner: &[u16], k: usize) -> Answer
+fn judge_entries(e: &[u16], owner: &[u16], k: usize) -> Answer<()>
     requires { (length owner.now ≡ 1024) × (k ≤ 1024) }
     ensures { result ≡ answer (entries_pass owner.now k 0 e.now) }
 {
-    let mut i = 0;
-    while i < e.len() {
-        let said = judge_entry(e[i], owner, k, i);
-        let Answer::Accepted = said else {
-            return said;
-        };
-        i += 1;
+    for i in 0..e.len() {
+        judge_entry(e[i], owner, k, i)?;
     }
-    Answer::Accepted
+    Ok(())
 }
 
 // 8: each entry's point is linked from the point of the entry before it.
-fn judge_run(e: &[u16], next: &[u16]) -> Answer
+fn judge_run(e: &[u16], next: &[u16]) -> Answer<()>
     requires { (length next.now ≡ 1024) × Within 1024 e.now }
     ensures { result ≡ answer (run_passes next.now e.now) }
 {
-    let mut i = 1;
-    while i < e.len() {
+    for i in 1..e.len() {
         let before = point_of(e[i - 1]);
-        if point_of(e[i]) != broad(next[before - 1]) {
-            return Answer::Refused(Refusal::NoRun, i);
+        if point_of(e[i]) != usize::from(next[before - 1]) {
+            return Err(Refusal::NoRun.at(i));
         }
-        i += 1;
     }
-    Answer::Accepted
+    Ok(())
 }
 
 // All of these tests; the first that fails is the answer.
-pub fn judge(e: &[u16], owner: &[u16], next: &[u16], c: Counts) -> Answer
+pub fn judge(e: &[u16], owner: &[u16], next: &[u16], c: Counts) -> Answer<()>
     requires { (length owner.now ≡ 1024) × (length next.now ≡ 1024) × (c.k ≤ 1024) }
     ensures { result ≡ answer (passes owner.now next.now c.n c.k c.m e.now) }
 {
@@ -73,24 +66,15 @@ pub fn judge(e: &[u16], owner: &[u16], next: &[u16], c: Counts) -> Answer
     let k = c.k;
     let m = c.m;
     if n <= k {
-        return Answer::Refused(Refusal::Finished, 0);
+        return Err(Refusal::Finished.at(0));
     }
     if e.len() < 2 {
-        return Answer::Refused(Refusal::FewEntries, 0);
+        return Err(Refusal::FewEntries.at(0));
     }
-    let placed = judge_entries(e, owner, k);
-    let Answer::Accepted = placed else {
-        return placed;
-    };
-    let run = judge_run(e, next);
-    let Answer::Accepted = run else {
-        return run;
-    };
-    if k + 1 != n {
-        return Answer::Accepted;
+    judge_entries(e, owner, k)?;
+    judge_run(e, next)?;
+    if k + 1 == n && e.len() != m {
+        return Err(Refusal::NotWhole.at(0));
     }
-    if e.len() != m {
-        return Answer::Refused(Refusal::NotWhole, 0);
-    }
-    Answer::Accepted
+    Ok(())
 }

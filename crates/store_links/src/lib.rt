@@ -9,7 +9,7 @@ ghost use Rattle.store_links.specs.Codes.{bend_code, bend_from};
 ghost use Rattle.store_links.specs.Opening.{no_counts};
 ghost use Rattle.store_links.specs.Storing.{with_counts};
 
-use rules::{Answer, Bend, Style};
+use rules::{Bend, Style};
 use styles::bent;
 
 // What is added to a covered point's distance from its owner, so that a point to the left of it has a gap too.
@@ -44,13 +44,6 @@ pub struct Spot {
     pub h: usize,
     pub s1: usize,
     pub rest: usize,
-}
-
-// What an adding call answers, and the numbers after it.
-#[derive(Clone, Copy)]
-pub struct Added {
-    pub answer: Answer,
-    pub counts: Counts,
 }
 
 // No points and no lines, which go with a refusal.

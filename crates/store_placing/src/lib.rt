@@ -16,20 +16,6 @@ use store_links::Spot;
 use styles::{amount, inset};
 use words::point_of;
 
-// Which middle ports the inner points take: port i + 1 from an index on, and port i before it. Or 25.
-#[derive(Clone, Copy)]
-pub enum Ports {
-    From(usize),
-    NoReach,
-}
-
-// A stored number, to compute with.
-fn broad(x: u16) -> usize
-    ensures { (result ≡ x) × (result < 65536) }
-{
-    x as usize
-}
-
 // The earlier point of entry i.
 fn point_at(e: &[u16], i: usize) -> usize
     requires { (i < length e.now) × Within 1024 e.now }
@@ -43,8 +29,7 @@ fn at_point(xs: &[u16], p: usize) -> usize
     requires { (length xs.now ≡ 1024) × (0 < p) × (p ≤ 1024) }
     ensures { (result ≡ at_point xs.now p) × (result < 65536) }
 {
-    let at = p - 1;
-    broad(xs[at])
+    usize::from(xs[p - 1])
 }
 
 // How far the last entry's point lies to the right of the first entry's.
@@ -54,10 +39,8 @@ pub fn way_over(e: &[u16], gap: &[u16]) -> usize
 {
     let last = e.len() - 1;
     let mut far = 0;
-    let mut i = 0;
-    while i < last {
-        i += 1;
-        let q = point_at(e, i);
+    for i in 0..last {
+        let q = point_at(e, i + 1);
         far += at_point(gap, q);
     }
     far
@@ -86,8 +69,8 @@ pub fn spot_of(
 {
     let s1 = amount(style, rights);
     let widened = far + s1 + amount(style, lefts);
-    let left = broad(yl);
-    let right = broad(yr);
+    let left = usize::from(yl);
+    let right = usize::from(yr);
     let total = widened + (widened + left + right) % 2;
     let dx = (total + right - left) / 2;
     let inside = inset(style);
@@ -147,31 +130,30 @@ fn all_reach(p: Spot, gap: &[u16], ys: &[u16], e: &[u16]) -> bool
 {
     let inner = e.len() - 2;
     let mut a = p.s1;
-    let mut i = 0;
-    while i < inner {
-        i += 1;
-        let q = point_at(e, i);
+    for i in 0..inner {
+        let q = point_at(e, i + 1);
         a += at_point(gap, q);
         let y = at_point(ys, q);
-        if !either_reaches(p, i, a, y) {
+        if !either_reaches(p, i + 1, a, y) {
             return false;
         }
     }
     true
 }
 
-// Step 5: the ports of the inner points. Where port i reaches every one, 25 isn't looked for.
-pub fn ports_of(p: Spot, gap: &[u16], ys: &[u16], e: &[u16]) -> Ports
+// Step 5: which middle ports the inner points take: port i + 1 from this index on, and port i before it; or none, which is 25.
+// Where port i reaches every one, 25 isn't looked for.
+pub fn ports_of(p: Spot, gap: &[u16], ys: &[u16], e: &[u16]) -> Option<usize>
     requires { Small p × (length gap.now ≡ 1024) × (length ys.now ≡ 1024) × (1 < length e.now) × (length e.now ≤ 1024) × Within 1024 e.now }
     ensures { result ≡ ports_for (change_from p gap.now ys.now e.now 1 (inner_count e.now)) (all_reach_from p gap.now ys.now e.now 1 (inner_count e.now)) }
 {
     let last = e.len() - 1;
     let from = change_at(p, gap, ys, e);
     if from == last {
-        return Ports::From(from);
+        return Some(from);
     }
     if !all_reach(p, gap, ys, e) {
-        return Ports::NoReach;
+        return None;
     }
-    Ports::From(from)
+    Some(from)
 }

@@ -8,6 +8,6 @@ pub returns-then-n-lt16777216 : goal.returns-then-n-lt16777216
 unfolding of_bits
 returns-then-n-lt16777216 c = record { small = omega arith; is = λ n h v. c.whole_part-n.ensures n h (eight_times c.args.x n h v) }
 
-pub returns : goal.returns
+pub returns-else-n-lt16777216 : goal.returns-else-n-lt16777216
 unfolding of_bits
-returns c = record { small = omega arith; is = λ n h v. absurd (omega (arith, c.whole_part-n.ensures n h (eight_times c.args.x n h v))) }
+returns-else-n-lt16777216 c = record { small = omega arith; is = λ n h v. absurd (omega (arith, c.whole_part-n.ensures n h (eight_times c.args.x n h v))) }

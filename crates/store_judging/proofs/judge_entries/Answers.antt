@@ -6,4 +6,4 @@ use Rattle.store_judging.proofs.judge_entries.Goals as goal
 pub loop-i-preserved : goal.loop-i-preserved
 loop-i-preserved c =
     let a = c.args in
-    (omega arith, c.loop-i.invariant.1 ∙ entry_passed a.owner.now a.e.now a.k c.loop-i.i _ c.loop-i-test.true refl c.judge_entry-said.ensures c.in-Accepted.is)
+    (omega arith, c.loop-i.invariant.1 ∙ entry_passed a.owner.now a.e.now a.k c.loop-i.i _ c.loop-i-test.true refl c.judge_entry.ensures c.in_ok-judge_entry.was)

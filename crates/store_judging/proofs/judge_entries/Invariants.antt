@@ -1,5 +1,5 @@
 -- `store_judging::judge_entries` meets its contract. The loop's invariant: the answer is that of the entries from i on.
-use Prim.Native.Nat.{◌-◌, ◌≤◌}
+use Prim.Native.Nat.{◌≤◌}
 use mathlib.Core.Path.{◌≡◌}
 use lib.ListN.{length, drop}
 use Rattle.store_links.specs.Judging.{entries_pass}
@@ -7,6 +7,3 @@ use Rattle.store_judging.proofs.judge_entries.Given as goal
 
 abbrev pub invariant-loop-i : goal.invariant-loop-i
 invariant-loop-i l = (l.i ≤ length l.e) × (entries_pass l.owner l.k 0 l.e ≡ entries_pass l.owner l.k l.i (drop l.i l.e))
-
-abbrev pub decreases-loop-i : goal.decreases-loop-i
-decreases-loop-i l = length l.e - l.i

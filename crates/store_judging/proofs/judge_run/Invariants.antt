@@ -1,13 +1,10 @@
 -- `store_judging::judge_run` meets its contract. The loop's invariant: the answer is that of the links from entry i on.
 use Prim.Native.Nat.{◌-◌, ◌≤◌}
 use mathlib.Core.Path.{◌≡◌}
-use lib.ListN.{length, drop}
+use lib.ListN.{drop}
 use Rattle.store_links.specs.Judging.{links_pass, run_passes}
 use Rattle.store_links.specs.Placing.{entry_point}
 use Rattle.store_judging.proofs.judge_run.Given as goal
 
 abbrev pub invariant-loop-i : goal.invariant-loop-i
 invariant-loop-i l = (1 ≤ l.i) × (run_passes l.next l.e ≡ links_pass l.next l.i (entry_point l.e (l.i - 1)) (drop l.i l.e))
-
-abbrev pub decreases-loop-i : goal.decreases-loop-i
-decreases-loop-i l = length l.e - l.i
