@@ -1,9 +1,9 @@
 -- A file's net in arrays, once it is taken.
-use Rattle.std.specs.Prelude.{ℕ, ◌≤◌, ◌≡◌, List, true, false}
+use Rattle.std.specs.Prelude.{ℕ, ◌≡◌, List, true, false}
 use Rattle.std.proofs.Common.{ap, sym, ◌∙◌, subst}
 use Rattle.rules.specs.declared.Refusal.TheVariants.{NoNet}
 use Rattle.rules.specs.Refusals.{good, refused}
-use Rattle.planar_rules.specs.PlanarCode.{Flat, formed?, net_of, taken?, import_of, imported}
+use Rattle.planar_rules.specs.PlanarCode.{Flat, net_of, taken?, import_of, imported}
 use Rattle.planar_sphere.specs.Flat.{Valid}
 use Rattle.planar_sphere.proofs.Check.{taken_yes}
 use Rattle.planar_order.specs.Theorem.{Ordered}

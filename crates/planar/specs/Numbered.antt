@@ -1,7 +1,7 @@
 -- The numbered points in arrays give the words of the order file and the list of vertices.
 use Rattle.std.specs.Prelude.{ℕ, zero, suc, ◌+◌, ◌*◌, ◌<◌, ◌≤◌, ◌≡◌, refl, List, [], ◌∷◌, ◌++◌, map, length, get_or, take, drop}
 use Rattle.std.proofs.Math.Path.{ap}
-use Rattle.std.proofs.Common.{sym, ◌∙◌, subst, arith, add-one, add-zero, get_or-take, drop-cons}
+use Rattle.std.proofs.Common.{sym, ◌∙◌, subst, arith, add-zero, get_or-take, drop-cons}
 use Rattle.rules.specs.Basics.{index_of}
 use Rattle.rules.specs.Entries.{word_of}
 use Rattle.rules.specs.Records.{bytes_of, order_mark, entries_mark, end_mark}

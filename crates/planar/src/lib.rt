@@ -17,7 +17,7 @@ use planar_judging::taken;
 use planar_numbering::number;
 use planar_reading::Net;
 use planar_writing::put_both;
-use rules::{Answer, Refusal, Refused};
+use rules::{Answer, Refusal};
 
 // The net of a file, or 14, then 15.
 fn judge(file: &[u8]) -> Answer<Net>
@@ -26,10 +26,7 @@ fn judge(file: &[u8]) -> Answer<Net>
 {
     let net = Net::read(file)?;
     if !taken(&net) {
-        return Err(Refused {
-            refusal: Refusal::NoNet,
-            place: 0,
-        });
+        return Err(Refusal::NoNet.at(0));
     }
     Ok(net)
 }

@@ -13,7 +13,7 @@ ghost use Rattle.planar_reading.specs.Reads.{net_in, Holding, list_in, found_pla
 
 pub use net::Net;
 use planar_rules::{FEWEST_VERTICES, PLACE_ROOM, START_ROOM};
-use rules::{Answer, Refusal, Refused};
+use rules::{Answer, Refusal};
 
 // Where n stands, behind the opening characters, and where the lists begin.
 const AT_N: usize = 15;
@@ -130,19 +130,13 @@ impl Net {
         ensures refusal { IfErr result (λ e. imported file.now ≡ refused e.refusal e.place) }
     {
         if !formed(file) {
-            return Err(Refused {
-                refusal: Refusal::BadCode,
-                place: 0,
-            });
+            return Err(Refusal::BadCode.at(0));
         }
         let n = file[AT_N];
         let lists = &file[AT_LISTS..];
         let places = count_places(lists);
         if PLACE_ROOM < places {
-            return Err(Refused {
-                refusal: Refusal::NoNet,
-                place: 0,
-            });
+            return Err(Refusal::NoNet.at(0));
         }
         Ok(Net {
             n,

@@ -1,5 +1,5 @@
 -- `planar::put_net` meets its contract: the numbered points are written as both outputs.
-use Rattle.std.proofs.Common.{arith, sym, ◌∙◌, ap, subst, take}
+use Rattle.std.proofs.Common.{arith, sym, subst}
 use Rattle.planar_choosing.specs.Rows.{Apart}
 use Rattle.planar.specs.Net.{its_valid, its_first}
 use Rattle.planar.specs.Numbered.{ver_apart, puttable, order-stored, list-stored}

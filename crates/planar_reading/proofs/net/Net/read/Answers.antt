@@ -8,7 +8,7 @@ use Rattle.planar_reading.specs.Reads.{bad_code, no_net, long, too_many, holds_n
 use Rattle.planar_reading.proofs.net.Net.read.Goals as goal
 
 pub returns-then-not-formed-clause-refusal : goal.returns-then-not-formed-clause-refusal
-returns-then-not-formed-clause-refusal c = bad_code _ (sym c.formed.ensures ∙ c.if-not-formed.true)
+returns-then-not-formed-clause-refusal c = rw c.at.ensures (bad_code _ (sym c.formed.ensures ∙ c.if-not-formed.true))
 
 pub bounds-file-15 : goal.bounds-file-15
 bounds-file-15 c = omega (arith, long _ (sym c.formed.ensures ∙ c.if-not-formed.false))
@@ -23,7 +23,7 @@ pub returns-then-places-gt-PLACE_ROOM-clause-refusal : goal.returns-then-places-
 returns-then-places-gt-PLACE_ROOM-clause-refusal c =
     let bs = c.args.file.now in
     let ok = sym c.formed.ensures ∙ c.if-not-formed.false in
-    no_net bs ok (too_many bs ok (omega (arith, c.count_places-places.ensures, c.if-places-gt-PLACE_ROOM.true, ap (λ l. length (neighbours l)) (take_rest bs 16))))
+    rw c.at-then-places-gt-PLACE_ROOM.ensures (no_net bs ok (too_many bs ok (omega (arith, c.count_places-places.ensures, c.if-places-gt-PLACE_ROOM.true, ap (λ l. length (neighbours l)) (take_rest bs 16)))))
 
 pub starts_of-requires : goal.starts_of-requires
 starts_of-requires c =
