@@ -1,6 +1,5 @@
 -- Where a line bends, read from the arrays.
-use Rattle.std.specs.Prelude.{ℕ, pred, ◌+◌, ◌-◌, ◌<◌, ◌≤◌, ◌≡◌, List, length, get_or}
-use Rattle.std.proofs.Common.{ap, arith}
+use Rattle.std.specs.Prelude.{ℕ, ◌+◌, ◌-◌, ◌<◌, ◌≤◌, ◌≡◌, List, length}
 use Rattle.rules.specs.declared.Place.{Place}
 use Rattle.rules.specs.declared.Bend.{Bend}
 use Rattle.rules.specs.declared.Bend.TheVariants.{Left, Right, Middle, NoBend}
@@ -27,37 +26,3 @@ pub record Bendable (xs : List ℕ) (a : Arrays) (later earlier : ℕ) (b : Bend
   pub later_in_lem : (0 < later) × (later ≤ 1024)
   pub earlier_in_lem : (0 < earlier) × (earlier ≤ 1024)
   pub fits : PortFits xs a later earlier b
-
--- ---- the four cases, as the code reads them
-
-module _ {xs : List ℕ} (a : Arrays) {later earlier : ℕ} {b : Bend} (h : Bendable xs a later earlier b) where
-  -- a list, read at the earlier point and at the later
-  of_earlier : (l : List ℕ) → get_or l (earlier - 1) 0 ≡ at_point l earlier
-  of_earlier l = let e : earlier - 1 ≡ pred earlier = omega arith in ap (λ i. get_or l i 0) e
-
-  of_later : (l : List ℕ) → get_or l (later - 1) 0 ≡ at_point l later
-  of_later l = let e : later - 1 ≡ pred later = omega arith in ap (λ i. get_or l i 0) e
-
-  module _ (j : ℕ) (e : b ≡ Left j) where
-    pub left_fits : (j ≤ get_or a.dls (earlier - 1) 0) × (get_or a.dls (earlier - 1) 0 + 1 ≤ get_or xs (earlier - 1) 0) × (get_or a.ys (earlier - 1) 0 + j < 65536)
-    left_fits = rw (of_earlier a.dls, of_earlier a.ys, of_earlier xs) (rw e at h.fits)
-
-    pub left_in : at (get_or xs (earlier - 1) 0 - (get_or a.dls (earlier - 1) 0 + 1)) (get_or a.ys (earlier - 1) 0 + j) ≡ bend_in xs a later earlier b
-    left_in = rw (e, of_earlier a.dls, of_earlier a.ys, of_earlier xs)
-
-  module _ (j : ℕ) (e : b ≡ Right j) where
-    pub right_fits : (j ≤ get_or a.drs (earlier - 1) 0) × (get_or xs (earlier - 1) 0 + get_or a.drs (earlier - 1) 0 + 1 < 65536) × (get_or a.ys (earlier - 1) 0 + j < 65536)
-    right_fits = rw (of_earlier a.drs, of_earlier a.ys, of_earlier xs) (rw e at h.fits)
-
-    pub right_in : at (get_or xs (earlier - 1) 0 + get_or a.drs (earlier - 1) 0 + 1) (get_or a.ys (earlier - 1) 0 + j) ≡ bend_in xs a later earlier b
-    right_in = rw (e, of_earlier a.drs, of_earlier a.ys, of_earlier xs)
-
-  module _ (i : ℕ) (e : b ≡ Middle i) where
-    pub middle_fits : (get_or xs (later - 1) 0 + i < 65536) × (get_or a.hs (later - 1) 0 ≤ get_or xs (later - 1) 0 + i) × (get_or a.hs (later - 1) 0 ≤ get_or a.ys (later - 1) 0)
-    middle_fits = rw (of_later a.hs, of_later a.ys, of_later xs) (rw e at h.fits)
-
-    pub middle_in : at (get_or xs (later - 1) 0 + i - get_or a.hs (later - 1) 0) (get_or a.ys (later - 1) 0 - get_or a.hs (later - 1) 0) ≡ bend_in xs a later earlier b
-    middle_in = rw (e, of_later a.hs, of_later a.ys, of_later xs)
-
-  pub straight_in : b ≡ NoBend → at (get_or xs (earlier - 1) 0) (get_or a.ys (earlier - 1) 0) ≡ bend_in xs a later earlier b
-  straight_in e = rw (e, of_earlier a.ys, of_earlier xs)

@@ -4,8 +4,7 @@ use Rattle.store_settling.specs.Settling.{first_walks, first_long, second_hangs,
 use Rattle.store_settling.proofs.settle.Goals as goal
 
 pub walk-requires : goal.walk-requires
-walk-requires c =
-    (c.requires.long, omega arith, omega arith, first_walks c.requires)
+walk-requires c = (c.requires.long, omega arith, omega arith, first_walks c.requires)
 
 pub hang-requires : goal.hang-requires
 hang-requires c =
