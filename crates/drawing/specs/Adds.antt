@@ -10,11 +10,12 @@ use Rattle.rules.specs.Calls.{left}
 use Rattle.exchange.specs.Reaching.{reached_left}
 use Rattle.store_links.specs.declared.Counts.{Counts}
 use Rattle.store_links.specs.Storing.{judged}
-use Rattle.store_laws.specs.Adding.{Holds, Ready, called}
-use Rattle.store_tables.specs.Tables.{Full, arrays_in, table_long}
+use Rattle.store_laws.specs.Adding.{Holds, called}
+use Rattle.store_tables.specs.declared.Table.{Table}
+use Rattle.store_tables.specs.Tables.{arrays_in}
 use Rattle.store_adding.specs.Calls.{Answered, call-refused, call-accepted}
 use Rattle.drawing.specs.declared.Drawing.{Drawing}
-use Rattle.drawing.specs.View.{Is, Came, told_drawing, stored}
+use Rattle.drawing.specs.View.{Is, Came, told_drawing}
 
 -- the drawing that the call returned or left
 abbrev pub left_by : Drawing → Answer Drawing → Drawing
@@ -24,10 +25,6 @@ left_by d (Err f) = d
 pub record AddsTo (d : Drawing) (es : List ℕ) (r : Answer Drawing) : Type 0 where
   pub right : (p : Plan) → Is p d → (told_drawing r ≡ told (add p es >> good tt)) × Is (left p (add p es)) (left_by d r)
   pub came : Came (left_by d r)
-
--- A drawing that came so can be added to.
-pub ready : {d : Drawing} → Came d → Ready (arrays_in d.table) d.counts × Full d.table
-ready {d} c = (stored c, table_long d.table c.is.sized)
 
 -- what holds of every drawing of the rules that d is, holds of the one that it came from
 came_left : {d e : Drawing} (es : List ℕ) (c : Came d) → ((p : Plan) → Is p d → Is (left p (add p es)) e) → Came e
@@ -39,14 +36,14 @@ module _ {d : Drawing} (es : List ℕ) (c : Came d) where
   says p i = ap told_answer (called i es).answers ∙ answer-told (add p es)
 
   -- Refused, everything is as it was.
-  pub adds-refused : (t : List ℕ) (e : Refused) → Answered (arrays_in d.table) d.counts es (arrays_in t) (Err e) → AddsTo d es (Err e)
+  pub adds-refused : (t : Table) (e : Refused) → Answered (arrays_in d.table) d.counts es (arrays_in t) (Err e) → AddsTo d es (Err e)
   adds-refused t e h =
       let j = call-refused e h in
       let is : (p : Plan) → Is p d → Is (left p (add p es)) d = λ p i. rw j at (called i es).holds in
       record { right = λ p i. (rw j at says p i, is p i); came = came_left es c is }
 
   -- Accepted, the point is there.
-  pub adds : (t : List ℕ) (n : Counts) → Answered (arrays_in d.table) d.counts es (arrays_in t) (Ok n) → AddsTo d es (Ok (record { counts = n; table = t }))
+  pub adds : (t : Table) (n : Counts) → Answered (arrays_in d.table) d.counts es (arrays_in t) (Ok n) → AddsTo d es (Ok (record { counts = n; table = t }))
   adds t n h =
       let j = call-accepted n h in
       let is : (p : Plan) → Is p d → Holds (left p (add p es)) (arrays_in t) n = λ p i. rw (h.arrays, j.1, j.0) (rw j.0 at (called i es).holds) in

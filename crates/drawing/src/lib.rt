@@ -14,7 +14,7 @@ ghost use Rattle.drawing.specs.Places.{IsPlaced};
 use answers::LineSeen;
 use rules::{Answer, FEWEST_POINTS, MOST_POINTS, Place, Refusal, Style};
 use store_links::Counts;
-use store_tables::{END, POINTS, Table};
+use store_tables::{POINTS, Table};
 
 // A drawing as the program keeps it: boundary links and gaps in one table (crate `store_links` says what each of its arrays holds).
 #[derive(Clone, Copy)]
@@ -34,7 +34,7 @@ pub struct Placed {
 fn as_opened(style: Style, n: usize) -> Drawing
     ensures { OpenFor style n result }
 {
-    let mut table = [0u16; END];
+    let mut table = Table::zeros();
     let counts = store_points::open_in(&mut table, style, n, 1, 1, 1, 2);
     Drawing { counts, table }
 }

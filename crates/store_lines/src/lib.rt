@@ -4,23 +4,23 @@
 
 ghost use Rattle.std.specs.Prelude.{◌≡◌, ◌+◌, ◌-◌, ◌<◌, ◌≤◌};
 ghost use Rattle.rules.specs.Points.{at};
-ghost use Rattle.store_tables.specs.Tables.{Full, arrays_in};
+ghost use Rattle.store_tables.specs.Tables.{arrays_in};
 ghost use Rattle.store_lines.specs.Lines.{line_in};
 
 use rules::{Line, Place};
 use store_links::bend_from;
-use store_tables::{BENDS, LATER, WORDS};
+use store_tables::Table;
 
 // Line e of the table.
-pub fn line_in(table: &[u16], e: usize) -> Line
-    requires { (e < 3072) × Full table.now }
+pub fn line_in(table: &Table, e: usize) -> Line
+    requires { e < 3072 }
     ensures { result ≡ line_in (arrays_in table.now) e }
 {
-    let word = table[WORDS + e];
-    let later = table[LATER + e];
+    let word = table.words[e];
+    let later = table.later[e];
     let x = words::entry_of(word);
     let kind = x.kind;
-    let bend = bend_from(table[BENDS + e]);
+    let bend = bend_from(table.bends[e]);
     Line {
         later,
         earlier: x.point,

@@ -18,7 +18,7 @@ ghost use Rattle.store_looking.specs.Cuts.{cut_to, FirstCut};
 use answers::LineSeen;
 use rules::{Answer, Place, Refusal, Style};
 use store_links::Counts;
-use store_tables::{LATER, POINTS, Table, WORDS, YS};
+use store_tables::{POINTS, Table};
 
 // The x of every placed point.
 pub fn settled(table: &Table, k: usize) -> [u16; POINTS]
@@ -38,7 +38,6 @@ fn is_point(k: usize, p: usize) -> bool
 }
 
 // A point's place, from the table and its settled x.
-#[tactic(auto, unfolding(store_tables::specs::Tables::arrays_in))]
 pub fn look_point(table: &Table, x: &[u16; POINTS], c: Counts, p: usize) -> Answer<Place>
     requires { Looks c table.now x.now }
     ensures { (q : Plan) → Holds q (arrays_in table.now) c → result ≡ point_seen (look_point q p) }
@@ -49,7 +48,7 @@ pub fn look_point(table: &Table, x: &[u16; POINTS], c: Counts, p: usize) -> Answ
     let i = p - 1;
     Ok(Place {
         x: x[i],
-        y: table[YS + i],
+        y: table.ys[i],
     })
 }
 
@@ -82,13 +81,13 @@ fn is_cut_to(word: u16, later: u16, p: usize) -> bool
 }
 
 // The first cut line that ends at p.
-#[tactic(auto, unfolding(store_tables::specs::Tables::arrays_in, crate::specs::Cuts::cut_at))]
+#[tactic(auto, unfolding(crate::specs::Cuts::cut_at))]
 fn first_cut(table: &Table, lines: usize, p: usize) -> Option<usize>
     requires { lines ≤ 3072 }
     ensures { FirstCut (arrays_in table.now) lines p result }
 {
     for e in 0..lines {
-        if is_cut_to(table[WORDS + e], table[LATER + e], p) {
+        if is_cut_to(table.words[e], table.later[e], p) {
             return Some(e);
         }
     }

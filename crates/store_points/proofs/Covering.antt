@@ -1,6 +1,6 @@
 -- One turn of covering, on lists.
 use Prim.Native.Nat.{ℕ, zero, suc, pred, ◌+◌, ◌-◌, ◌<◌, ◌≤◌}
-use mathlib.Core.Path.{◌≡◌, refl, ◌∙◌}
+use mathlib.Core.Path.{◌≡◌, refl, ◌∙◌, ap}
 use mathlib.Core.List.{List}
 use native.Mathlib.Nat.{le_refl, add-zero, add-suc}
 use native.Mathlib.Numerals.{add-one, sub-one}
@@ -8,11 +8,9 @@ use native.Mathlib.Omega.{arith}
 use lib.ListN.{length, get_or, set}
 use lib.Seq.{get_or-set_other}
 use Rattle.store_links.specs.declared.Spot.{Spot}
-use Rattle.store_links.specs.Arrays.{at_point, gap_offset}
+use Rattle.store_links.specs.Arrays.{Arrays, at_point, gap_offset}
 use Rattle.store_links.specs.Placing.{entry_point, way, inner_count}
 use Rattle.store_links.specs.Storing.{covered_gaps, covered_owners}
-use Rattle.store_links.specs.Arrays.{Arrays}
-use Rattle.store_tables.specs.Tables.{from, Keeps, arrays_store, gap_r, owner_r}
 use Rattle.store_points.specs.Storable.{Coverable}
 use Rattle.store_points.specs.Stages.{covered}
 
@@ -70,10 +68,9 @@ pub owner_more : (owner₀ owner es : List ℕ) (v i q : ℕ) → owner ≡ cove
 unfolding covered_owners
 owner_more owner₀ owner es v i q ho hq = rw (ho, hq, sub-one, add-one)
 
--- and of the whole table
-pub cover_more : (a : Arrays) {es : List ℕ} {p : Spot} {i far q x : ℕ} {t : List ℕ} (v : ℕ) → Turn a.gap es p i far (covered_gaps a.gap es p i) q → Keeps t (covered a es p v i) → x ≡ way a.gap es (i + 1) + p.s1 + gap_offset - p.dx →
-    Keeps (set (set t (from gap_r + (q - 1)) x) (from owner_r + (q - 1)) v) (covered a es p v (i + 1))
-cover_more a {es} {p} {i} {far} {q} {x} v t k e =
-    let g = turn_gap t e in
-    let o = owner_more a.owner (covered_owners a.owner es v i) es v i q refl t.point in
-    rw (← g, ← o) (arrays_store owner_r (q - 1) v (arrays_store gap_r (q - 1) x k refl (turn-index t)) refl (turn-index t))
+-- and of all the arrays
+pub cover_more : (a : Arrays) {es : List ℕ} {p : Spot} {i far q x : ℕ} {b : Arrays} (v : ℕ) → Turn a.gap es p i far b.gap q → b ≡ covered a es p v i → x ≡ way a.gap es (i + 1) + p.s1 + gap_offset - p.dx →
+    ◌≡◌ {A = Arrays} (record b { gap = set b.gap (q - 1) x; owner = set b.owner (q - 1) v }) (covered a es p v (i + 1))
+cover_more a {es} {p} {i} {far} {q} {x} {b} v t k e =
+    let o = owner_more a.owner b.owner es v i q (ap (λ (r : Arrays). r.owner) k) t.point in
+    λ j. record (k j) { gap = turn_gap t e j; owner = o j }

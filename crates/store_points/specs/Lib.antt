@@ -1,3 +1,2 @@
 pub mod Storable
 pub mod Stages
-pub mod Zeros

@@ -1,12 +1,10 @@
 -- Where a line bends, read from the arrays.
-use Rattle.std.specs.Prelude.{ℕ, pred, ◌+◌, ◌-◌, ◌<◌, ◌≤◌, ◌≡◌, List, length, get_or}
-use Rattle.std.proofs.Common.{ap, arith}
+use Rattle.std.specs.Prelude.{ℕ, ◌+◌, ◌-◌, ◌<◌, ◌≤◌, ◌≡◌, List, length}
 use Rattle.rules.specs.declared.Place.{Place}
 use Rattle.rules.specs.declared.Bend.{Bend}
 use Rattle.rules.specs.declared.Bend.TheVariants.{Left, Right, Middle, NoBend}
 use Rattle.rules.specs.Points.{at}
 use Rattle.store_links.specs.Arrays.{Arrays, at_point}
-use Rattle.store_tables.specs.Tables.{from, region, arrays_in, point_read_lem, ys_r, dls_r, drs_r, hs_r}
 
 -- `bend_of` of the rules, over lists: a left or right port of the earlier point, a middle port of the later one, or the earlier point itself
 abbrev pub bend_in : List ℕ → Arrays → ℕ → ℕ → Bend → Place
@@ -28,50 +26,3 @@ pub record Bendable (xs : List ℕ) (a : Arrays) (later earlier : ℕ) (b : Bend
   pub later_in_lem : (0 < later) × (later ≤ 1024)
   pub earlier_in_lem : (0 < earlier) × (earlier ≤ 1024)
   pub fits : PortFits xs a later earlier b
-
--- ---- the four cases, as the code reads them from the table
-
-module _ {xs : List ℕ} (t : List ℕ) {later earlier : ℕ} {b : Bend} (h : Bendable xs (arrays_in t) later earlier b) where
-  -- a region, and x, at the earlier point and at the later
-  of_earlier : (r : ℕ) → get_or t (from r + (earlier - 1)) 0 ≡ at_point (region t r) earlier
-  of_earlier r = point_read_lem r t (earlier - 1) earlier (omega arith) (omega arith)
-
-  of_later : (r : ℕ) → get_or t (from r + (later - 1)) 0 ≡ at_point (region t r) later
-  of_later r = point_read_lem r t (later - 1) later (omega arith) (omega arith)
-
-  x_earlier : get_or xs (earlier - 1) 0 ≡ at_point xs earlier
-  x_earlier = let e : earlier - 1 ≡ pred earlier = omega arith in ap (λ i. get_or xs i 0) e
-
-  x_later : get_or xs (later - 1) 0 ≡ at_point xs later
-  x_later = let e : later - 1 ≡ pred later = omega arith in ap (λ i. get_or xs i 0) e
-
-  module _ (j : ℕ) (e : b ≡ Left j) where
-    pub left_fits : (j ≤ get_or t (from dls_r + (earlier - 1)) 0) × (get_or t (from dls_r + (earlier - 1)) 0 + 1 ≤ get_or xs (earlier - 1) 0) × (get_or t (from ys_r + (earlier - 1)) 0 + j < 65536)
-    unfolding arrays_in
-    left_fits = rw (of_earlier dls_r, of_earlier ys_r, x_earlier) (rw e at h.fits)
-
-    pub left_in : at (get_or xs (earlier - 1) 0 - (get_or t (from dls_r + (earlier - 1)) 0 + 1)) (get_or t (from ys_r + (earlier - 1)) 0 + j) ≡ bend_in xs (arrays_in t) later earlier b
-    unfolding arrays_in
-    left_in = rw (e, of_earlier dls_r, of_earlier ys_r, x_earlier)
-
-  module _ (j : ℕ) (e : b ≡ Right j) where
-    pub right_fits : (j ≤ get_or t (from drs_r + (earlier - 1)) 0) × (get_or xs (earlier - 1) 0 + get_or t (from drs_r + (earlier - 1)) 0 + 1 < 65536) × (get_or t (from ys_r + (earlier - 1)) 0 + j < 65536)
-    unfolding arrays_in
-    right_fits = rw (of_earlier drs_r, of_earlier ys_r, x_earlier) (rw e at h.fits)
-
-    pub right_in : at (get_or xs (earlier - 1) 0 + get_or t (from drs_r + (earlier - 1)) 0 + 1) (get_or t (from ys_r + (earlier - 1)) 0 + j) ≡ bend_in xs (arrays_in t) later earlier b
-    unfolding arrays_in
-    right_in = rw (e, of_earlier drs_r, of_earlier ys_r, x_earlier)
-
-  module _ (i : ℕ) (e : b ≡ Middle i) where
-    pub middle_fits : (get_or xs (later - 1) 0 + i < 65536) × (get_or t (from hs_r + (later - 1)) 0 ≤ get_or xs (later - 1) 0 + i) × (get_or t (from hs_r + (later - 1)) 0 ≤ get_or t (from ys_r + (later - 1)) 0)
-    unfolding arrays_in
-    middle_fits = rw (of_later hs_r, of_later ys_r, x_later) (rw e at h.fits)
-
-    pub middle_in : at (get_or xs (later - 1) 0 + i - get_or t (from hs_r + (later - 1)) 0) (get_or t (from ys_r + (later - 1)) 0 - get_or t (from hs_r + (later - 1)) 0) ≡ bend_in xs (arrays_in t) later earlier b
-    unfolding arrays_in
-    middle_in = rw (e, of_later hs_r, of_later ys_r, x_later)
-
-  pub straight_in : b ≡ NoBend → at (get_or xs (earlier - 1) 0) (get_or t (from ys_r + (earlier - 1)) 0) ≡ bend_in xs (arrays_in t) later earlier b
-  unfolding arrays_in
-  straight_in e = rw (e, of_earlier ys_r, x_earlier)

@@ -3,7 +3,7 @@
 #![tactic(auto)]
 
 ghost use Rattle.std.specs.Prelude.{◌≡◌, ◌<◌, ◌≤◌, length, get_or};
-ghost use Rattle.store_tables.specs.Tables.{Full, arrays_in};
+ghost use Rattle.store_tables.specs.Tables.{arrays_in};
 ghost use Rattle.store_settling.specs.Walk.{first_pass, Walks};
 ghost use Rattle.store_settling.specs.Hang.{hang_by, HangsBy, hung, Hangs};
 ghost use Rattle.store_settling.specs.Placed.{Settleable, Settled};
@@ -11,7 +11,7 @@ ghost use Rattle.store_settling.specs.Bends.{Bendable, bend_in};
 
 use rules::{Bend, Place};
 use store_links::GAP_OFFSET;
-use store_tables::{DLS, DRS, GAP, HS, NEXT, OWNER, POINTS, YS};
+use store_tables::{POINTS, Table};
 
 // The first pass: boundary points along the links from point 1, which lies at 0.
 fn walk(x: &mut [u16; POINTS], next: &[u16], gap: &[u16], k: usize)
@@ -57,28 +57,28 @@ fn hang(x: &mut [u16; POINTS], gap: &[u16], owner: &[u16], k: usize)
 }
 
 // The x of every placed point.
-pub fn settle(x: &mut [u16; POINTS], table: &[u16], k: usize)
-    requires { Settleable x.old (arrays_in table.now) k × Full table.now }
+pub fn settle(x: &mut [u16; POINTS], table: &Table, k: usize)
+    requires { Settleable x.old (arrays_in table.now) k }
     ensures { Settled x.new (arrays_in table.now) k }
 {
-    walk(x, &table[NEXT..GAP], &table[GAP..OWNER], k);
-    hang(x, &table[GAP..OWNER], &table[OWNER..YS], k);
+    walk(x, &table.next, &table.gap, k);
+    hang(x, &table.gap, &table.owner, k);
 }
 
 // Where a line bends, from the places of now.
-pub fn bend_of(x: &[u16; POINTS], table: &[u16], later: usize, earlier: usize, b: Bend) -> Place
-    requires { Bendable x.now (arrays_in table.now) later earlier b × Full table.now }
+pub fn bend_of(x: &[u16; POINTS], table: &Table, later: usize, earlier: usize, b: Bend) -> Place
+    requires { Bendable x.now (arrays_in table.now) later earlier b }
     ensures { result ≡ bend_in x.now (arrays_in table.now) later earlier b }
 {
     let p = later - 1;
     let q = earlier - 1;
     match b {
-        Bend::Left(j) => store_lines::left_port(x[q], table[YS + q], table[DLS + q], j),
-        Bend::Right(j) => store_lines::right_port(x[q], table[YS + q], table[DRS + q], j),
-        Bend::Middle(i) => store_lines::middle_port(x[p], table[YS + p], table[HS + p], i),
+        Bend::Left(j) => store_lines::left_port(x[q], table.ys[q], table.dls[q], j),
+        Bend::Right(j) => store_lines::right_port(x[q], table.ys[q], table.drs[q], j),
+        Bend::Middle(i) => store_lines::middle_port(x[p], table.ys[p], table.hs[p], i),
         Bend::NoBend => Place {
             x: x[q],
-            y: table[YS + q],
+            y: table.ys[q],
         },
     }
 }

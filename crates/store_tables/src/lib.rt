@@ -1,6 +1,8 @@
-// The one lent table that keeps a drawing, and where each of its regions starts: seven with a word for each point, three with a word for each line.
-// Crate `store_links` says what each of them holds.
+// The one lent table that keeps a drawing: an array with a word for each point, seven times, and one with a word for each line, three times.
 #![tactic(auto)]
+
+ghost use Rattle.std.specs.Prelude.{◌≡◌};
+ghost use Rattle.store_tables.specs.Tables.{zeros};
 
 use rules::MOST_POINTS;
 
@@ -9,26 +11,37 @@ pub const POINTS: usize = MOST_POINTS;
 
 pub const LINES: usize = 3 * POINTS;
 
-pub const NEXT: usize = 0;
+// A drawing's arrays: seven with a word for each point, three with a word for each line. Crate `store_links` says what each of them holds.
+#[derive(Clone, Copy)]
+pub struct Table {
+    pub next: [u16; POINTS],
+    pub gap: [u16; POINTS],
+    pub owner: [u16; POINTS],
+    pub ys: [u16; POINTS],
+    pub dls: [u16; POINTS],
+    pub drs: [u16; POINTS],
+    pub hs: [u16; POINTS],
+    pub words: [u16; LINES],
+    pub later: [u16; LINES],
+    pub bends: [u16; LINES],
+}
 
-pub const GAP: usize = NEXT + POINTS;
-
-pub const OWNER: usize = GAP + POINTS;
-
-pub const YS: usize = OWNER + POINTS;
-
-pub const DLS: usize = YS + POINTS;
-
-pub const DRS: usize = DLS + POINTS;
-
-pub const HS: usize = DRS + POINTS;
-
-pub const WORDS: usize = HS + POINTS;
-
-pub const LATER: usize = WORDS + LINES;
-
-pub const BENDS: usize = LATER + LINES;
-
-pub const END: usize = BENDS + LINES;
-
-pub type Table = [u16; END];
+impl Table {
+    // A table that holds no drawing yet: every number is 0.
+    pub fn zeros() -> Table
+        ensures { result ≡ zeros }
+    {
+        Table {
+            next: [0; POINTS],
+            gap: [0; POINTS],
+            owner: [0; POINTS],
+            ys: [0; POINTS],
+            dls: [0; POINTS],
+            drs: [0; POINTS],
+            hs: [0; POINTS],
+            words: [0; LINES],
+            later: [0; LINES],
+            bends: [0; LINES],
+        }
+    }
+}

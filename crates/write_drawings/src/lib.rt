@@ -8,7 +8,7 @@ ghost use Rattle.rules.specs.Refusals.{good};
 ghost use Rattle.rules.specs.Records.{place_size, line_size};
 ghost use Rattle.rules.specs.DrawingFile.{highest, drawing_bytes};
 ghost use Rattle.rules.specs.Output.{filled};
-ghost use Rattle.store_tables.specs.Tables.{Full, arrays_in};
+ghost use Rattle.store_tables.specs.Tables.{arrays_in};
 ghost use Rattle.write_drawings.specs.Lists.{several, point_bytes, line_bytes};
 ghost use Rattle.words.specs.Writing.{Stored};
 ghost use Rattle.write_drawings.specs.Finished.{Finished, Writable, PointsReady, LineReady, LinesReady};
@@ -17,7 +17,7 @@ use rules::{LINE_MARK, PLACE_MARK, Style};
 use store_lines::line_in;
 use store_links::Counts;
 use store_settling::bend_of;
-use store_tables::{DLS, POINTS, YS};
+use store_tables::{POINTS, Table};
 use styles::drawing_mark;
 use words::last_field;
 use write_records::{put_end, put_words};
@@ -66,11 +66,11 @@ fn write_line(
     out: &mut [u8],
     at: usize,
     x: &[u16; POINTS],
-    table: &[u16],
+    table: &Table,
     c: Counts,
     e: usize,
 ) -> usize
-    requires { LineReady c.style x.now (arrays_in table.now) c.s e at out.old × Full table.now }
+    requires { LineReady c.style x.now (arrays_in table.now) c.s e at out.old }
     ensures stored { Stored out.old at (line_bytes c.style c.s x.now (arrays_in table.now) e) out.new }
     ensures behind { result ≡ at + line_size c.style }
 {
@@ -98,8 +98,8 @@ fn write_line(
 }
 
 // The records of all lines, from the place `at` on. Returns the place behind them.
-fn write_lines(out: &mut [u8], at: usize, x: &[u16; POINTS], table: &[u16], c: Counts) -> usize
-    requires { LinesReady c.style x.now (arrays_in table.now) c.s c.lines at out.old × Full table.now }
+fn write_lines(out: &mut [u8], at: usize, x: &[u16; POINTS], table: &Table, c: Counts) -> usize
+    requires { LinesReady c.style x.now (arrays_in table.now) c.s c.lines at out.old }
     ensures stored { Stored out.old at (several (line_bytes c.style c.s x.now (arrays_in table.now)) c.lines) out.new }
     ensures behind { result ≡ at + line_size c.style * c.lines }
 {
@@ -111,18 +111,16 @@ fn write_lines(out: &mut [u8], at: usize, x: &[u16; POINTS], table: &[u16], c: C
 }
 
 // The drawing file of the finished drawing that the table holds, whose x are settled: into the start of the buffer.
-#[tactic(auto, unfolding(store_tables::specs::Tables::arrays_in))]
-pub fn write_drawing(out: &mut [u8], x: &[u16; POINTS], table: &[u16], c: Counts)
-    requires { Writable x.now (arrays_in table.now) c out.old × Full table.now }
+pub fn write_drawing(out: &mut [u8], x: &[u16; POINTS], table: &Table, c: Counts)
+    requires { Writable x.now (arrays_in table.now) c out.old }
     ensures { (d : Drawing) → Finished d x.now (arrays_in table.now) c →
         out.new ≡ filled out.old (good (drawing_bytes d)) }
 {
-    let ys = &table[YS..DLS];
     let width = scaled(c.s, x[1]);
-    let height = scaled(c.s, largest(&ys[..c.k]));
+    let height = scaled(c.s, largest(&table.ys[..c.k]));
     let header = [drawing_mark(c.style), c.n as u16, c.s as u16, width, height];
     let points = put_words(out, 0, &header);
-    let lines = write_points(out, points, x, ys, c.s, c.k);
+    let lines = write_points(out, points, x, &table.ys, c.s, c.k);
     let end = write_lines(out, lines, x, table, c);
     put_end(out, end);
 }

@@ -8,14 +8,14 @@ ghost use Rattle.rules.specs.Points.{Drawing};
 ghost use Rattle.rules.specs.OrderFile.{write_order, longest_order};
 ghost use Rattle.rules.specs.Records.{entries_mark};
 ghost use Rattle.store_links.specs.Arrays.{Stores};
-ghost use Rattle.store_tables.specs.Tables.{Full, arrays_in};
+ghost use Rattle.store_tables.specs.Tables.{arrays_in};
 ghost use Rattle.exchange.specs.Built.{Whole};
 ghost use Rattle.words.specs.Writing.{Pasted};
 ghost use Rattle.write_orders.specs.Writing.{again, points_words, head_words, OrderWritable, OrderWritten};
 
 use rules::{ENTRIES_MARK, NUMBER_SIZE, ORDER_MARK, SCALE_MARK};
 use store_links::Counts;
-use store_tables::{BENDS, LATER, WORDS};
+use store_tables::Table;
 use write_records::{put_end, put_two};
 
 // An entry, put together again from its parts.
@@ -80,20 +80,12 @@ fn put_head(out: &mut [u8], n: usize, s: usize) -> usize
 }
 
 // Writes the order file of the finished drawing that the table holds. Returns the number of bytes.
-#[tactic(auto, unfolding(store_tables::specs::Tables::arrays_in))]
-pub fn write_order(out: &mut [u8], table: &[u16], c: Counts) -> usize
-    requires { OrderWritable out.old (arrays_in table.now) c × Full table.now }
+pub fn write_order(out: &mut [u8], table: &Table, c: Counts) -> usize
+    requires { OrderWritable out.old (arrays_in table.now) c }
     ensures { (d : Drawing) → Whole d → Stores d (arrays_in table.now) c → OrderWritten d out.old out.new result }
 {
     let points = put_head(out, c.n, c.s);
-    let end = put_points(
-        out,
-        points,
-        &table[WORDS..LATER],
-        &table[LATER..BENDS],
-        c.n,
-        c.lines,
-    );
+    let end = put_points(out, points, &table.words, &table.later, c.n, c.lines);
     put_end(out, end)
 }
 

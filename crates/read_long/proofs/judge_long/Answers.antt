@@ -3,7 +3,6 @@ use Rattle.std.specs.Prelude.{ℕ, ◌≡◌, ◌+◌, ◌*◌, ◌<◌, ◌≤�
 use Rattle.std.proofs.Common.{sym, ◌∙◌, arith, drop_of_length-le}
 use Rattle.rules.specs.Records.{words_in}
 use Rattle.words.specs.Bytes.{word_at}
-use Rattle.store_tables.specs.Tables.{region, region-long, arrays_in, owner_r}
 use Rattle.store_judging.specs.Passed.{entry-refused, entry_passed}
 use Rattle.read_records.specs.Cursors.{words_count}
 use Rattle.read_records.specs.Marked.{words_in_lem}
@@ -28,37 +27,35 @@ pub returns-then-c : goal.returns-then-c
 returns-then-c c =
     let f = c.args.entries.now.file.now in
     let at = c.args.entries.now.at in
-    λ d h. long-finished h (words f at c.args.count c.requires.0.there) (many f at c.args.count c.requires.0.there c.requires.0.many) c.if-c.true
+    λ d h. long-finished h (words f at c.args.count c.requires.there) (many f at c.args.count c.requires.there c.requires.many) c.if-c.true
 
 pub judge_entry-requires : goal.judge_entry-requires
-judge_entry-requires c = (region-long owner_r c.args.table.now (omega arith), omega arith)
+judge_entry-requires c = (omega arith, omega arith)
 
 pub returns-in-Err : goal.returns-in-Err
-unfolding arrays_in
 returns-in-Err c =
     let f = c.args.entries.now.file.now in
     let at = c.args.entries.now.at in
     let n = c.args.count in
-    let t = c.requires.0.there in
+    let t = c.requires.there in
     let i = c.loop-i.i in
-    λ d h. long-entry h (words f at n t) (many f at n t c.requires.0.many) c.if-c.false _ _
-    (c.loop-i.invariant ∙ entry-refused (region c.args.table.now owner_r) (words f at n t) c.args.c.k i _ (more f at n t i c.loop-i-test.true) (entry_is f at n t i c.loop-i-test.true _ c.word_at-e.ensures) c.judge_entry.ensures _ c.in-Err.is)
+    λ d h. long-entry h (words f at n t) (many f at n t c.requires.many) c.if-c.false _ _
+    (c.loop-i.invariant ∙ entry-refused c.args.table.now.owner (words f at n t) c.args.c.k i _ (more f at n t i c.loop-i-test.true) (entry_is f at n t i c.loop-i-test.true _ c.word_at-e.ensures) c.judge_entry.ensures _ c.in-Err.is)
 
 pub loop-i-preserved : goal.loop-i-preserved
 loop-i-preserved c =
     let f = c.args.entries.now.file.now in
     let at = c.args.entries.now.at in
     let n = c.args.count in
-    let t = c.requires.0.there in
+    let t = c.requires.there in
     let i = c.loop-i.i in
-    c.loop-i.invariant ∙ entry_passed (region c.args.table.now owner_r) (words f at n t) c.args.c.k i _ (more f at n t i c.loop-i-test.true) (entry_is f at n t i c.loop-i-test.true _ c.word_at-e.ensures) c.judge_entry.ensures c.in_default.is
+    c.loop-i.invariant ∙ entry_passed c.args.table.now.owner (words f at n t) c.args.c.k i _ (more f at n t i c.loop-i-test.true) (entry_is f at n t i c.loop-i-test.true _ c.word_at-e.ensures) c.judge_entry.ensures c.in_default.is
 
 pub returns : goal.returns
-unfolding arrays_in
 returns c =
     let f = c.args.entries.now.file.now in
     let at = c.args.entries.now.at in
     let n = c.args.count in
-    let t = c.requires.0.there in
-    λ d h. long-run h (words f at n t) (many f at n t c.requires.0.many) c.if-c.false
+    let t = c.requires.there in
+    λ d h. long-run h (words f at n t) (many f at n t c.requires.many) c.if-c.false
     (c.loop-i.invariant ∙ rw (drop_of_length-le (words f at n t) {i = c.loop-i.i} (rw (words_count f at n t) c.loop-i-test.false)))

@@ -1,5 +1,4 @@
 -- `look_line` meets its contract: the line read from the arrays is the drawing's, and bends where the rules say, or nowhere.
-use Rattle.store_tables.specs.Tables.{table_long}
 use Rattle.store_looking.specs.Lines.{line-bends, line_seen_lem, straight_seen}
 use Rattle.store_looking.proofs.look_line.Goals as goal
 
@@ -7,7 +6,7 @@ pub bend_of-at-requires : goal.bend_of-at-requires
 bend_of-at-requires c =
     let h = c.requires.0.holds in
     rw (c.from-to.ensures, c.from-from.ensures)
-    (line-bends h c.requires.1 c.args.e c.if-c-e.false c.line_in-l.result c.line_in-l.ensures, table_long _ h.sized)
+    (line-bends h c.requires.1 c.args.e c.if-c-e.false c.line_in-l.result c.line_in-l.ensures)
 
 pub returns-in_default : goal.returns-in_default
 returns-in_default c =

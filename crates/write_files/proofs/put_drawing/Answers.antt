@@ -1,7 +1,6 @@
 -- `put_drawing`: with its settled x the drawing is finished, and its bytes are written.
 use Rattle.std.proofs.Common.{◌∙◌, sym, arith}
 use Rattle.rules.specs.Results.{handed_on}
-use Rattle.store_tables.specs.Tables.{table_long}
 use Rattle.write_files.specs.Files.{need_is, finish, writable}
 use Rattle.write_files.specs.Outputs.{short, no_less, full}
 use Rattle.write_files.proofs.put_drawing.Goals as goal
@@ -14,7 +13,7 @@ returns-in_err-room c = λ d w h.
 pub write_drawing-requires : goal.write_drawing-requires
 write_drawing-requires c =
     let room = no_less _ _ _ _ (sym c.room.ensures ∙ c.in_ok-room.was) in
-    (writable c.requires c.settle.ensures (omega arith), table_long _ c.requires.holds.sized)
+    writable c.requires c.settle.ensures (omega arith)
 
 pub returns : goal.returns
 returns c = λ d w h.
