@@ -1,59 +1,53 @@
 -- What adding leaves: the answer and the drawing of the rules, and, refused, the drawing as it was.
-use Rattle.std.specs.Prelude.{ℕ, ◌≡◌, refl, List, length}
-use Rattle.std.proofs.Common.{sym, ap, ◌∙◌, arith}
-use Rattle.rules.specs.declared.Answer.{Answer}
-use Rattle.rules.specs.declared.Answer.TheVariants.{Accepted, Refused}
-use Rattle.rules.specs.declared.Refusal.{Refusal}
-use Rattle.rules.specs.Refusals.{Result, good, refused, answer, refused_with, told, told_answer, ◌>>◌}
-use Rattle.rules.specs.Numbers.{never-gives, answer-told}
+use Rattle.std.specs.Prelude.{ℕ, ◌≡◌, List, Ok, Err}
+use Rattle.std.proofs.Common.{ap, ◌∙◌}
+use Rattle.rules.specs.declared.Refused.{Refused}
+use Rattle.rules.specs.Refusals.{good, Answer, answer, told, told_answer, ◌>>◌}
+use Rattle.rules.specs.Numbers.{answer-told}
 use Rattle.rules.specs.Points.{Drawing as Plan}
 use Rattle.rules.specs.Adding.{add}
 use Rattle.rules.specs.Calls.{left}
 use Rattle.exchange.specs.Reaching.{reached_left}
-use Rattle.store_links.specs.declared.Added.{Added}
 use Rattle.store_links.specs.declared.Counts.{Counts}
-use Rattle.store_links.specs.Arrays.{Arrays}
-use Rattle.store_links.specs.Storing.{judged, arrays_after, counts_after}
+use Rattle.store_links.specs.Storing.{judged}
 use Rattle.store_laws.specs.Adding.{Holds, Ready, called}
-use Rattle.store_tables.specs.Tables.{Full, arrays_in, table_long, table_size, table_same}
-use Rattle.store_adding.specs.Calls.{Answered}
+use Rattle.store_tables.specs.Tables.{Full, arrays_in, table_long}
+use Rattle.store_adding.specs.Calls.{Answered, call-refused, call-accepted}
 use Rattle.drawing.specs.declared.Drawing.{Drawing}
-use Rattle.drawing.specs.declared.Done.{Done}
-use Rattle.drawing.specs.View.{Is, Came, stored}
+use Rattle.drawing.specs.View.{Is, Came, told_drawing, stored}
 
-pub record AddsTo (d : Drawing) (es : List ℕ) (r : Done) : Type 0 where
-  pub right : (p : Plan) → Is p d → (told_answer r.answer ≡ told (add p es >> good tt)) × Is (left p (add p es)) r.drawing
-  pub came : Came r.drawing
-  pub kept : (n at : ℕ) → told_answer r.answer ≡ refused_with n at → r.drawing ≡ d
+-- the drawing that the call returned or left
+abbrev pub left_by : Drawing → Answer Drawing → Drawing
+left_by d (Ok e) = e
+left_by d (Err f) = d
+
+pub record AddsTo (d : Drawing) (es : List ℕ) (r : Answer Drawing) : Type 0 where
+  pub right : (p : Plan) → Is p d → (told_drawing r ≡ told (add p es >> good tt)) × Is (left p (add p es)) (left_by d r)
+  pub came : Came (left_by d r)
 
 -- A drawing that came so can be added to.
 pub ready : {d : Drawing} → Came d → Ready (arrays_in d.table) d.counts × Full d.table
 ready {d} c = (stored c, table_long d.table c.is.sized)
 
--- refused, nothing changes
-kept_by : (a : Arrays) (c : Counts) (es : List ℕ) (j : Result (Unit {0})) (f : Refusal) (at : ℕ) → answer j ≡ Refused f at → (arrays_after j a c es ≡ a) × (counts_after j c es ≡ c)
-kept_by a c es (good t) f at e = let z : ◌≡◌ {A = ℕ} 0 1 = cc in absurd (omega arith)
-kept_by a c es (refused r p) f at e = (refl, refl)
+-- what holds of every drawing of the rules that d is, holds of the one that it came from
+came_left : {d e : Drawing} (es : List ℕ) (c : Came d) → ((p : Plan) → Is p d → Is (left p (add p es)) e) → Came e
+came_left es c right = record { plan = left c.plan (add c.plan es); reached = reached_left c.plan c.reached es; is = right c.plan c.is }
 
--- What the core answers and leaves is what adding must give.
-pub adds : {d : Drawing} {es t : List ℕ} {x : Added} → Came d → length d.table ≡ table_size → length t ≡ table_size → Answered (arrays_in d.table) d.counts es (arrays_in t) x →
-    AddsTo d es (record { answer = x.answer; drawing = record { counts = x.counts; table = t } })
-adds {d} {es} {t} {x} c n n' h = record { right = right; came = came; kept = kept }
-  where
-    right : (p : Plan) → Is p d → (told_answer x.answer ≡ told (add p es >> good tt)) × Holds (left p (add p es)) (arrays_in t) x.counts
-    right p i = let k = called i es in (ap told_answer (h.answer ∙ k.answers) ∙ answer-told (add p es), rw (h.arrays, h.counts) k.holds)
+module _ {d : Drawing} (es : List ℕ) (c : Came d) where
+  -- what the rules answer, by how the core judged
+  says : (p : Plan) → Is p d → told_answer (answer (judged (arrays_in d.table) d.counts es)) ≡ told (add p es >> good tt)
+  says p i = ap told_answer (called i es).answers ∙ answer-told (add p es)
 
-    came : Came (record { counts = x.counts; table = t })
-    came = record { plan = left c.plan (add c.plan es); reached = reached_left c.plan c.reached es; is = (right c.plan c.is).1 }
+  -- Refused, everything is as it was.
+  pub adds-refused : (t : List ℕ) (e : Refused) → Answered (arrays_in d.table) d.counts es (arrays_in t) (Err e) → AddsTo d es (Err e)
+  adds-refused t e h =
+      let j = call-refused e h in
+      let is : (p : Plan) → Is p d → Is (left p (add p es)) d = λ p i. rw j at (called i es).holds in
+      record { right = λ p i. (rw j at says p i, is p i); came = came_left es c is }
 
-    kept_so : (f : Refusal) (at : ℕ) → x.answer ≡ Refused f at → record { counts = x.counts; table = t } ≡ d
-    kept_so f at e =
-        let k = kept_by (arrays_in d.table) d.counts es (judged (arrays_in d.table) d.counts es) f at (sym h.answer ∙ e) in
-        rw (table_same t d.table n' n (h.arrays ∙ k.0), h.counts ∙ k.1)
-
-    kept : (n at : ℕ) → told_answer x.answer ≡ refused_with n at → record { counts = x.counts; table = t } ≡ d
-    kept n at e = go x.answer refl e
-      where
-        go : (a : Answer) → x.answer ≡ a → told_answer a ≡ refused_with n at → record { counts = x.counts; table = t } ≡ d
-        go Accepted q e = absurd (never-gives (sym e))
-        go (Refused f p) q e = kept_so f p q
+  -- Accepted, the point is there.
+  pub adds : (t : List ℕ) (n : Counts) → Answered (arrays_in d.table) d.counts es (arrays_in t) (Ok n) → AddsTo d es (Ok (record { counts = n; table = t }))
+  adds t n h =
+      let j = call-accepted n h in
+      let is : (p : Plan) → Is p d → Holds (left p (add p es)) (arrays_in t) n = λ p i. rw (h.arrays, j.1, j.0) (rw j.0 at (called i es).holds) in
+      record { right = λ p i. (rw j.0 at says p i, is p i); came = came_left es c is }

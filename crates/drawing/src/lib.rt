@@ -7,12 +7,12 @@ ghost use Rattle.rules.specs.Points.{Drawing as Plan};
 ghost use Rattle.rules.specs.Lookups.{look_point, look_line, LooksCut};
 ghost use Rattle.answers.specs.Told.{told_point, told_line, told_cut};
 ghost use Rattle.drawing.specs.View.{Is, Came};
-ghost use Rattle.drawing.specs.Opens.{blank, OpenFor, Opens};
+ghost use Rattle.drawing.specs.Opens.{OpenFor, Opens};
 ghost use Rattle.drawing.specs.Adds.{AddsTo};
 ghost use Rattle.drawing.specs.Places.{IsPlaced};
 
-use answers::{CutSeen, LineSeen, PointSeen};
-use rules::{Answer, FEWEST_POINTS, MOST_POINTS, Refusal, Style};
+use answers::LineSeen;
+use rules::{Answer, FEWEST_POINTS, MOST_POINTS, Place, Refusal, Style};
 use store_links::Counts;
 use store_tables::{END, POINTS, Table};
 
@@ -30,24 +30,6 @@ pub struct Placed {
     pub x: [u16; POINTS],
 }
 
-// What a call answers, and the drawing that it returns or leaves.
-#[derive(Clone, Copy)]
-pub struct Done {
-    pub answer: Answer,
-    pub drawing: Drawing,
-}
-
-// A drawing of zeros, which goes with a refusal to open or to run a list of calls.
-#[tactic(auto, unfolding(crate::specs::Opens::blank))]
-pub fn no_drawing() -> Drawing
-    ensures { result ≡ blank }
-{
-    Drawing {
-        counts: store_links::no_counts(),
-        table: [0u16; END],
-    }
-}
-
 // The drawing as opened: points 1, 2, 3 and their three cut lines.
 fn as_opened(style: Style, n: usize) -> Drawing
     ensures { OpenFor style n result }
@@ -58,33 +40,23 @@ fn as_opened(style: Style, n: usize) -> Drawing
 }
 
 // Opens a drawing of this style for n points.
-pub fn open(style: Style, n: usize) -> Done
+pub fn open(style: Style, n: usize) -> Answer<Drawing>
     ensures { Opens style n result }
 {
     if n < FEWEST_POINTS || MOST_POINTS < n {
-        return Done {
-            answer: Answer::Refused(Refusal::OutOfRange, 0),
-            drawing: no_drawing(),
-        };
+        return Err(Refusal::OutOfRange.at(0));
     }
-    Done {
-        answer: Answer::Accepted,
-        drawing: as_opened(style, n),
-    }
+    Ok(as_opened(style, n))
 }
 
-// Adds a point with the entries e as its earlier neighbours, or refuses and gives the drawing back as it was.
-pub fn add(d: Drawing, e: &[u16]) -> Done
+// Gives the drawing with a point more, whose earlier neighbours are the entries e, or refuses.
+pub fn add(d: Drawing, e: &[u16]) -> Answer<Drawing>
     requires { Came d }
     ensures { AddsTo d e.now result }
 {
-    let c = d.counts;
     let mut table = d.table;
-    let added = store_adding::add(&mut table, c, e);
-    let answer = added.answer;
-    let counts = added.counts;
-    let drawing = Drawing { counts, table };
-    Done { answer, drawing }
+    let counts = store_adding::add(&mut table, d.counts, e)?;
+    Ok(Drawing { counts, table })
 }
 
 // The drawing with its x settled.
@@ -98,7 +70,7 @@ pub fn settle(d: Drawing) -> Placed
 }
 
 // A point's place.
-pub fn point_at(v: Placed, p: usize) -> PointSeen
+pub fn point_at(v: Placed, p: usize) -> Answer<Place>
     requires { IsPlaced v }
     ensures { (q : Plan) → Is q v.drawing → told_point result ≡ told (look_point q p) }
 {
@@ -107,7 +79,7 @@ pub fn point_at(v: Placed, p: usize) -> PointSeen
 }
 
 // The same, where one look-up is enough.
-pub fn point(d: Drawing, p: usize) -> PointSeen
+pub fn point(d: Drawing, p: usize) -> Answer<Place>
     requires { Came d }
     ensures { (q : Plan) → Is q d → told_point result ≡ told (look_point q p) }
 {
@@ -115,7 +87,7 @@ pub fn point(d: Drawing, p: usize) -> PointSeen
 }
 
 // A line with its ends and kind, and, in a one-bend drawing, its bend and where that lies.
-pub fn line_at(v: Placed, e: usize) -> LineSeen
+pub fn line_at(v: Placed, e: usize) -> Answer<LineSeen>
     requires { IsPlaced v }
     ensures { (q : Plan) → Is q v.drawing → told_line result ≡ told (look_line q e) }
 {
@@ -124,7 +96,7 @@ pub fn line_at(v: Placed, e: usize) -> LineSeen
 }
 
 // The same, where one look-up is enough.
-pub fn line(d: Drawing, e: usize) -> LineSeen
+pub fn line(d: Drawing, e: usize) -> Answer<LineSeen>
     requires { Came d }
     ensures { (q : Plan) → Is q d → told_line result ≡ told (look_line q e) }
 {
@@ -132,7 +104,7 @@ pub fn line(d: Drawing, e: usize) -> LineSeen
 }
 
 // Some cut line that ends at p, or that there is none.
-pub fn cut_line(d: Drawing, p: usize) -> CutSeen
+pub fn cut_line(d: Drawing, p: usize) -> Answer<Option<usize>>
     requires { Came d }
     ensures { (q : Plan) → Is q d → LooksCut q p (told_cut result) }
 {

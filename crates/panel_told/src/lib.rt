@@ -3,110 +3,62 @@
 #![tactic(auto)]
 
 ghost use Rattle.std.specs.Prelude.{◌≡◌};
-ghost use Rattle.panel_told.specs.Telling.{code_of, refusal_of, Tells};
-ghost use Rattle.panel_told.specs.Answers.{file_given, move_given, list_given, short_for, import_given, import_short, point_given, line_words, line_given, ends_words, ends_given, cut_given};
+ghost use Rattle.panel_words.specs.Words.{buffer_number};
+ghost use Rattle.panel_told.specs.Telling.{Given, alone, number_in, words_in, given_with, code_of, refusal_of, Tells};
+ghost use Rattle.panel_told.specs.Answers.{file_given, move_words, list_given, short_for, import_given, import_short, point_words, line_words, seen_words, ends_words, ends_seen, cut_words};
 
-use answers::{CutSeen, Imported, LineSeen, Listed, Moved, PointSeen, Written};
-use panel_words::{NO_BUFFER, NUMBERS, OUTPUT, VERTICES};
-use rules::{Line, Refusal};
+use answers::{LineSeen, NotImported, NotListed, Sizes};
+use panel_words::Buffer;
+use rules::{Answer, Line, Place, Refusal};
+use tool::Move;
 
-// The number of bytes written.
-pub fn tell_written(written: Written, buffer: u64, refusal: &mut [u64; 3]) -> u64
-    ensures { (result ≡ code_of (file_given written)) × (refusal.new ≡ refusal_of buffer (file_given written)) }
+// A value that C is told: by a number, and by N words in the caller's array, which a number alone leaves.
+pub trait ForC<A, const N: usize> {
+    ghost given: { Self → Given A };
+
+    fn put(self, words: &mut [A; N]) -> u64
+        ensures number { result ≡ number_in (given self) }
+        ensures words { words.new ≡ words_in words.old (given self) };
+}
+
+// An answer: the number and the words of its value, or the three words of its refusal. The call could find `buffer` too short.
+pub fn tell<A, const N: usize, T: ForC<A, N>>(
+    answer: Answer<T>,
+    buffer: Buffer,
+    words: &mut [A; N],
+    refusal: &mut [u64; 3],
+) -> u64
+    ensures { Tells (buffer_number buffer) (given_with T.given answer) words.old words.new result refusal.new }
 {
-    match written {
-        Written::Bytes(k) => {
+    match answer {
+        Ok(value) => {
             *refusal = [0, 0, 0];
-            k as u64
+            value.put(words)
         }
-        Written::Refused(r, p) => {
-            panel_words::refuse(r, p, buffer, refusal);
+        Err(refused) => {
+            *refusal = panel_words::refusal_words(refused, buffer);
             0
         }
     }
 }
 
 // A move: 1 to 4, and its two coordinates or its height and 0.
-pub fn tell_move(moved: Moved, buffer: u64, at: &mut [f32; 2], refusal: &mut [u64; 3]) -> u64
-    ensures { Tells buffer (move_given moved) at.old at.new result refusal.new }
-{
-    match moved {
-        Moved::Made(m) => {
-            *at = tool::move_numbers(m);
-            *refusal = [0, 0, 0];
-            tool::move_kind(m) as u64
-        }
-        Moved::Refused(r, p) => {
-            panel_words::refuse(r, p, buffer, refusal);
-            0
-        }
-    }
-}
+impl ForC<f32, 2> for Move {
+    ghost given = { move_words };
 
-// All moves: how many there are. 24 tells which of their two buffers is short; with another refusal 24 is of `buffer`.
-pub fn tell_listed(listed: Listed, buffer: u64, refusal: &mut [u64; 3]) -> u64
-    ensures { (result ≡ code_of (list_given listed)) × (refusal.new ≡ refusal_of (short_for buffer listed) (list_given listed)) }
-{
-    match listed {
-        Listed::Moves(count) => {
-            *refusal = [0, 0, 0];
-            count as u64
-        }
-        Listed::KindsShort => {
-            panel_words::refuse(Refusal::OutputShort, 0, OUTPUT, refusal);
-            0
-        }
-        Listed::NumbersShort => {
-            panel_words::refuse(Refusal::OutputShort, 0, NUMBERS, refusal);
-            0
-        }
-        Listed::Refused(r, p) => {
-            panel_words::refuse(r, p, buffer, refusal);
-            0
-        }
-    }
-}
-
-// An import: the bytes of its order file. 24 tells which of the two buffers is short.
-pub fn tell_imported(imported: Imported, refusal: &mut [u64; 3]) -> u64
-    ensures { (result ≡ code_of (import_given imported)) × (refusal.new ≡ refusal_of (import_short imported) (import_given imported)) }
-{
-    match imported {
-        Imported::Sizes(order, _) => {
-            *refusal = [0, 0, 0];
-            order as u64
-        }
-        Imported::OrderShort => {
-            panel_words::refuse(Refusal::OutputShort, 0, OUTPUT, refusal);
-            0
-        }
-        Imported::ListShort => {
-            panel_words::refuse(Refusal::OutputShort, 0, VERTICES, refusal);
-            0
-        }
-        Imported::Refused(r, p) => {
-            panel_words::refuse(r, p, NO_BUFFER, refusal);
-            0
-        }
+    fn put(self, words: &mut [f32; 2]) -> u64 {
+        *words = tool::move_numbers(self);
+        u64::from(tool::move_kind(self))
     }
 }
 
 // A point's place: 1, and its x and y.
-pub fn tell_point(found: PointSeen, buffer: u64, seen: &mut [u64; 2], refusal: &mut [u64; 3]) -> u64
-    ensures { Tells buffer (point_given found) seen.old seen.new result refusal.new }
-{
-    match found {
-        PointSeen::At(place) => {
-            let x = panel_words::wide(place.x);
-            let y = panel_words::wide(place.y);
-            *seen = [x, y];
-            *refusal = [0, 0, 0];
-            1
-        }
-        PointSeen::Refused(r, p) => {
-            panel_words::refuse(r, p, buffer, refusal);
-            0
-        }
+impl ForC<u64, 2> for Place {
+    ghost given = { point_words };
+
+    fn put(self, words: &mut [u64; 2]) -> u64 {
+        *words = [u64::from(self.x), u64::from(self.y)];
+        1
     }
 }
 
@@ -114,37 +66,24 @@ pub fn tell_point(found: PointSeen, buffer: u64, seen: &mut [u64; 2], refusal: &
 fn line_words(l: Line, x: u64, y: u64) -> [u64; 7]
     ensures { result ≡ line_words l x y }
 {
-    let later = panel_words::wide(l.later);
-    let earlier = panel_words::wide(l.earlier);
-    let b = l.bend;
-    let bent = panel_words::bend_kind(b);
-    let port = panel_words::port_of(b);
-    let kind = l.kind;
-    let field = panel_words::wide(words::last_field(kind));
+    let later = u64::from(l.later);
+    let earlier = u64::from(l.earlier);
+    let bent = panel_words::bend_kind(l.bend);
+    let port = panel_words::port_of(l.bend);
+    let field = u64::from(words::last_field(l.kind));
     [later, earlier, bent, port, x, y, field]
 }
 
-// A line: 1, and those words. For drawings with bends; a straight line has no place for one, and is told with `tell_ends`.
-pub fn tell_line(found: LineSeen, buffer: u64, seen: &mut [u64; 7], refusal: &mut [u64; 3]) -> u64
-    ensures { Tells buffer (line_given found) seen.old seen.new result refusal.new }
-{
-    match found {
-        LineSeen::Bent(l, bend) => {
-            let x = panel_words::wide(bend.x);
-            let y = panel_words::wide(bend.y);
-            *seen = line_words(l, x, y);
-            *refusal = [0, 0, 0];
-            1
-        }
-        LineSeen::Straight(l) => {
-            *seen = line_words(l, 0, 0);
-            *refusal = [0, 0, 0];
-            1
-        }
-        LineSeen::Refused(r, p) => {
-            panel_words::refuse(r, p, buffer, refusal);
-            0
-        }
+// A line: 1, and those words. For drawings with bends; a straight line has no place for one, and is told without it.
+impl ForC<u64, 7> for LineSeen {
+    ghost given = { seen_words };
+
+    fn put(self, words: &mut [u64; 7]) -> u64 {
+        *words = match self {
+            LineSeen::Bent(l, bend) => line_words(l, u64::from(bend.x), u64::from(bend.y)),
+            LineSeen::Straight(l) => line_words(l, 0, 0),
+        };
+        1
     }
 }
 
@@ -152,55 +91,80 @@ pub fn tell_line(found: LineSeen, buffer: u64, seen: &mut [u64; 7], refusal: &mu
 fn ends_words(l: Line) -> [u64; 3]
     ensures { result ≡ ends_words l }
 {
-    let later = panel_words::wide(l.later);
-    let earlier = panel_words::wide(l.earlier);
-    let kind = l.kind;
-    let field = panel_words::wide(words::last_field(kind));
+    let later = u64::from(l.later);
+    let earlier = u64::from(l.earlier);
+    let field = u64::from(words::last_field(l.kind));
     [later, earlier, field]
 }
 
 // A line without its bend: 1, and those words.
-pub fn tell_ends(found: LineSeen, buffer: u64, seen: &mut [u64; 3], refusal: &mut [u64; 3]) -> u64
-    ensures { Tells buffer (ends_given found) seen.old seen.new result refusal.new }
-{
-    match found {
-        LineSeen::Bent(l, _) => {
-            *seen = ends_words(l);
-            *refusal = [0, 0, 0];
-            1
-        }
-        LineSeen::Straight(l) => {
-            *seen = ends_words(l);
-            *refusal = [0, 0, 0];
-            1
-        }
-        LineSeen::Refused(r, p) => {
-            panel_words::refuse(r, p, buffer, refusal);
-            0
+impl ForC<u64, 3> for LineSeen {
+    ghost given = { ends_seen };
+
+    fn put(self, words: &mut [u64; 3]) -> u64 {
+        *words = match self {
+            LineSeen::Bent(l, _) | LineSeen::Straight(l) => ends_words(l),
+        };
+        1
+    }
+}
+
+// What C is told where there is no cut line. It stays a number: the C interface has no Option.
+const NO_CUT_LINE: u64 = 2;
+
+// A cut line: 1 and its number; or that there is none.
+impl ForC<u64, 1> for Option<usize> {
+    ghost given = { cut_words };
+
+    fn put(self, words: &mut [u64; 1]) -> u64 {
+        match self {
+            Some(line) => {
+                *words = [line as u64];
+                1
+            }
+            None => NO_CUT_LINE,
         }
     }
 }
 
-// What C is told where there is no cut line.
-const NO_CUT_LINE: u64 = 2;
+// A number alone.
+impl ForC<u64, 0> for usize {
+    ghost given = { alone };
 
-// A cut line: 1 and its number; or that there is none.
-pub fn tell_cut(found: CutSeen, buffer: u64, seen: &mut [u64; 1], refusal: &mut [u64; 3]) -> u64
-    ensures { Tells buffer (cut_given found) seen.old seen.new result refusal.new }
+    fn put(self, words: &mut [u64; 0]) -> u64 {
+        self as u64
+    }
+}
+
+// The number of bytes written.
+pub fn tell_written(written: Answer<usize>, buffer: Buffer, refusal: &mut [u64; 3]) -> u64
+    ensures { (result ≡ code_of (file_given written)) × (refusal.new ≡ refusal_of (buffer_number buffer) (file_given written)) }
 {
-    match found {
-        CutSeen::Line(e) => {
-            *seen = [e as u64];
-            *refusal = [0, 0, 0];
-            1
-        }
-        CutSeen::Nothing => {
-            *refusal = [0, 0, 0];
-            NO_CUT_LINE
-        }
-        CutSeen::Refused(r, p) => {
-            panel_words::refuse(r, p, buffer, refusal);
-            0
-        }
+    tell(written, buffer, &mut [], refusal)
+}
+
+// All moves: how many there are. 24 tells which of their two buffers is short; with another refusal 24 is of `buffer`.
+pub fn tell_listed(listed: Result<usize, NotListed>, buffer: Buffer, refusal: &mut [u64; 3]) -> u64
+    ensures { (result ≡ code_of (list_given listed)) × (refusal.new ≡ refusal_of (short_for (buffer_number buffer) listed) (list_given listed)) }
+{
+    let short = Refusal::OutputShort.at(0);
+    match listed {
+        Ok(count) => tell_written(Ok(count), buffer, refusal),
+        Err(NotListed::KindsShort) => tell_written(Err(short), Buffer::Output, refusal),
+        Err(NotListed::NumbersShort) => tell_written(Err(short), Buffer::Numbers, refusal),
+        Err(NotListed::Refused(refused)) => tell_written(Err(refused), buffer, refusal),
+    }
+}
+
+// An import: the bytes of its order file. 24 tells which of the two buffers is short.
+pub fn tell_imported(imported: Result<Sizes, NotImported>, refusal: &mut [u64; 3]) -> u64
+    ensures { (result ≡ code_of (import_given imported)) × (refusal.new ≡ refusal_of (import_short imported) (import_given imported)) }
+{
+    let short = Refusal::OutputShort.at(0);
+    match imported {
+        Ok(sizes) => tell_written(Ok(sizes.order), Buffer::None, refusal),
+        Err(NotImported::OrderShort) => tell_written(Err(short), Buffer::Output, refusal),
+        Err(NotImported::ListShort) => tell_written(Err(short), Buffer::Vertices, refusal),
+        Err(NotImported::Refused(refused)) => tell_written(Err(refused), Buffer::None, refusal),
     }
 }

@@ -5,6 +5,8 @@ use Rattle.rules.specs.declared.Bend.TheVariants.{Left, Right, Middle, NoBend}
 use Rattle.rules.specs.declared.Refusal.{Refusal}
 use Rattle.rules.specs.declared.Refusal.TheVariants.{OutputShort}
 use Rattle.rules.specs.Refusals.{number}
+use Rattle.panel_words.specs.declared.Buffer.{Buffer}
+use Rattle.panel_words.specs.declared.Buffer.TheVariants.{None, Output, Answers, Numbers, Vertices}
 
 -- the buffer that a call can find too short
 abbrev pub no_buffer : ℕ
@@ -21,6 +23,14 @@ numbers_buffer = 3
 
 abbrev pub vertices_buffer : ℕ
 vertices_buffer = 4
+
+-- the number by which C knows a buffer
+abbrev pub buffer_number : Buffer → ℕ
+buffer_number None = no_buffer
+buffer_number Output = output_buffer
+buffer_number Answers = answers_buffer
+buffer_number Numbers = numbers_buffer
+buffer_number Vertices = vertices_buffer
 
 -- which buffer was short: 0 unless the number is that of "24 output too short"
 abbrev pub short_of : ℕ → Refusal → ℕ

@@ -1,51 +1,50 @@
-// Parts of what C is told: the three words of a refusal, and a number, a bend and a mark as words. For `panel_told`.
+// Parts of what C is told: the three words of a refusal, and a bend as words. For `panel_told`.
 #![tactic(auto)]
 
 ghost use Rattle.std.specs.Prelude.{◌≡◌};
-ghost use Rattle.panel_words.specs.Words.{short_of, refusal_words, bend_kind, port_of};
+ghost use Rattle.panel_words.specs.Words.{buffer_number, refusal_words, bend_kind, port_of};
 
-use rules::{Bend, Refusal};
+use rules::{Bend, Refusal, Refused};
 
-// The buffer that a call can find too short.
-pub const NO_BUFFER: u64 = 0;
+// The buffer that a call can find too short, if any.
+#[derive(Clone, Copy, Debug, PartialEq, Eq)]
+pub enum Buffer {
+    None,
+    Output,
+    Answers,
+    Numbers,
+    Vertices,
+}
 
-pub const OUTPUT: u64 = 1;
+// A number stays for each buffer: the C interface has no enum there.
+impl From<Buffer> for u64 {
+    ghost from_gives = { λ b n. n ≡ buffer_number b };
 
-pub const ANSWERS: u64 = 2;
-
-pub const NUMBERS: u64 = 3;
-
-pub const VERTICES: u64 = 4;
-
-// Which buffer was short: 0 unless the refusal is 24.
-fn short_of(r: Refusal, buffer: u64) -> u64
-    ensures { result ≡ short_of buffer r }
-{
-    if answers::refusal_number(r) == answers::refusal_number(Refusal::OutputShort) {
-        buffer
-    } else {
-        0
+    fn from(buffer: Buffer) -> u64 {
+        match buffer {
+            Buffer::None => 0,
+            Buffer::Output => 1,
+            Buffer::Answers => 2,
+            Buffer::Numbers => 3,
+            Buffer::Vertices => 4,
+        }
     }
 }
 
-// The three words of a refusal: number, place, and which buffer was short.
-pub fn refuse(r: Refusal, p: usize, buffer: u64, refusal: &mut [u64; 3])
-    ensures { refusal.new ≡ refusal_words buffer r p }
+// The three words of a refusal: number, place, and which buffer was short, 0 unless the refusal is 24.
+pub fn refusal_words(refused: Refused, buffer: Buffer) -> [u64; 3]
+    ensures { result ≡ refusal_words (buffer_number buffer) refused.refusal refused.place }
 {
-    let number = answers::refusal_number(r) as u64;
-    let at = p as u64;
-    let short = short_of(r, buffer);
-    *refusal = [number, at, short];
+    let number = u64::from(u16::from(refused.refusal));
+    let place = refused.place as u64;
+    let short = match refused.refusal {
+        Refusal::OutputShort => buffer,
+        _ => Buffer::None,
+    };
+    [number, place, u64::from(short)]
 }
 
-// A stored number as a word for C.
-pub fn wide(x: u16) -> u64
-    ensures { result ≡ x }
-{
-    x as u64
-}
-
-// The kind of a bend: 0 straight, 1 at a left port, 2 at a right port, 3 at a middle port.
+// The kind of a bend: 0 straight, 1 at a left port, 2 at a right port, 3 at a middle port. They stay numbers: the C interface has no enum there.
 pub fn bend_kind(b: Bend) -> u64
     ensures { result ≡ bend_kind b }
 {
@@ -63,8 +62,6 @@ pub fn port_of(b: Bend) -> u64
 {
     match b {
         Bend::NoBend => 0,
-        Bend::Left(j) => wide(j),
-        Bend::Right(j) => wide(j),
-        Bend::Middle(i) => wide(i),
+        Bend::Left(j) | Bend::Right(j) | Bend::Middle(j) => u64::from(j),
     }
 }

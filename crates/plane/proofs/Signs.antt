@@ -1,24 +1,17 @@
 -- Differences of whole numbers as signed 64-bit numbers, and their signs. Assumes nothing.
 use mathlib.Core.Path.{◌≡◌, refl, sym, ap, ◌∙◌}
 use mathlib.Core.Bool.{Bool, true, false, not, cond, ◌&&◌}
-use Prim.Native.Nat.{ℕ, zero, suc, ◌-◌, ◌*◌, ◌^◌, ◌≤◌, ◌<◌}
-use native.Mathlib.Nat.{add-zero, mul-le-mul}
+use Prim.Native.Nat.{ℕ, zero, suc, ◌-◌}
+use native.Mathlib.Nat.{add-zero}
 use native.Mathlib.Omega.{arith}
 use borrow.Author.Tests.{ltb-true, ltb-false, lt-ltb, le-ltb, ne_eqb}
-use lib.Dec.{ltb, eqb}
+use lib.Dec.{ltb}
 use lib.IntN.{ℤ, pos, negsuc, ◌-ℤ◌}
-use mir.Syntax.{w16, w64}
-use mir.Val.{of_z, Fits, SFits}
+use mir.Syntax.{w64}
+use mir.Val.{SFits}
 use Rattle.rules.specs.declared.Place.{Place}
 use Rattle.rules.specs.Meeting.{cross_plus, cross_minus, left_of, right_of, in_line}
 use Rattle.plane.specs.Turning.{above_zero, at_zero, below_zero, Turns}
-
--- the product of two 16-bit numbers
-pub product : {a b : ℕ} → Fits w16 a → Fits w16 b → a * b < 4294967296
-product {a} {b} f g =
-    let h : a ≤ 65535 = omega arith in
-    let k : b ≤ 65535 = omega arith in
-    omega (arith, mul-le-mul h k)
 
 -- the signs of a - b
 minus_above : (a b : ℕ) → above_zero (pos a -ℤ pos b) ≡ ltb b a
@@ -62,8 +55,3 @@ turns p q r o e =
     let a : above_zero o ≡ left_of p q r = ap above_zero e ∙ minus_above (cross_plus p q r) (cross_minus p q r) in
     let b : below_zero o ≡ right_of p q r = ap below_zero e ∙ minus_below (cross_plus p q r) (cross_minus p q r) in
     record { above = a; at = neither o ∙ simp (a, b); below = b }
-
--- the test that a signed number's bits are 0
-pub at_zero_lem : (o : ℤ) → SFits w64 o → eqb (of_z w64 o) 0 ≡ at_zero o
-at_zero_lem (pos n) h = refl
-at_zero_lem (negsuc n) h = ne_eqb (2 ^ 64 - suc n) 0 (λ e. omega arith)

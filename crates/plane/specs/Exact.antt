@@ -1,5 +1,5 @@
 -- The test is exact: pieces that have a point in common by weights meet by the signs of cross products.
-use Rattle.std.specs.Prelude.{ℕ, ◌+◌, ◌*◌, ◌<◌, ◌≤◌, min, max, ◌≡◌, Bool, true, false, not, ◌&&◌, if◌then◌else◌, ◌-◌}
+use Rattle.std.specs.Prelude.{ℕ, ◌+◌, ◌*◌, ◌<◌, ◌≤◌, min, max, ◌≡◌, Bool, true, false, not, ◌&&◌, if◌then◌else◌}
 use Rattle.std.proofs.Common.{ap, sym, inl, inr, arith, mul-le-mul_left, ltb-true, le-leb}
 use Rattle.std.proofs.Math.Decide.{dec_le}
 use Rattle.rules.specs.declared.Place.{Place}

@@ -1,6 +1,6 @@
 -- One turn of the loop that takes a group, on lists: the line at hand is the group's, or the group ends before it.
 use Prim.Native.Nat.{ℕ, ◌+◌, ◌-◌, ◌*◌, ◌<◌, ◌≤◌}
-use mathlib.Core.Path.{◌≡◌, ap, sym, ◌∙◌}
+use mathlib.Core.Path.{◌≡◌, ap, sym, ◌∙◌, subst}
 use mathlib.Core.List.{List, [], ◌∷◌, ◌++◌, map, append-nil, append_assoc}
 use native.Mathlib.Numerals.{add-one}
 use native.Mathlib.Omega.{arith}
@@ -29,15 +29,16 @@ taking_none τ f at left p e =
 
 module _ {τ : Style} {f : List ℕ} {at left p : ℕ} {e : List ℕ} {i : ℕ} (t : Taking τ f at left p e i) where
   -- no line is left
-  pub taken_all : left ≤ i → Taken τ f at left p e i
+  pub taken_all : left ≤ i → Taken τ f at left p e left
   taken_all h =
       let none : left - i ≡ 0 = omega arith in
       let lines : lines_at τ f (left - i) (at + line_size τ * i) ≡ [] = ap (λ (c : ℕ). lines_at τ f c (at + line_size τ * i)) none ∙ lines_none τ f (at + line_size τ * i) in
-      record {
+      let taken : Taken τ f at left p e i = record {
         few = t.few;
         entries = sym (append-nil (take i e)) ∙ ap (λ l. take i e ++ map number_for (group τ p l)) (sym lines) ∙ t.entries;
         rest = t.rest ∙ ap (behind p) lines ∙ sym lines;
-      }
+      } in
+      subst (λ (c : ℕ). Taken τ f at left p e c) (omega (arith, t.few)) taken
 
   module _ (h : i < left) (there : at + line_size τ * left ≤ length f) (here : ℕ) (is-here : here ≡ at + line_size τ * i) (v : ℕ) (is : v ≡ word_at f (here + 2)) where
     -- the line at hand, and those behind it

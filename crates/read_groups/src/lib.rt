@@ -7,6 +7,7 @@ ghost use Rattle.rules.specs.DrawingFile.{entry_in};
 ghost use Rattle.read_groups.specs.Lines.{line_at, joins};
 ghost use Rattle.read_groups.specs.Groups.{number_for, Taken};
 
+use read_records::Cursor;
 use rules::{Entry, Style};
 use styles::line_size;
 use words::{POINT_LIMIT, word_at};
@@ -18,46 +19,41 @@ const EARLIER_AT: usize = 4;
 
 const KIND_SIZE: usize = 2;
 
-// Whether the line record at `at` joins these two points.
-pub fn line_joins(f: &[u8], style: Style, at: usize, later: u16, earlier: u16) -> bool
-    requires { at + line_size style ≤ length f.now }
-    ensures { result ≡ joins (line_at style f.now at) later earlier }
+// Whether the line record at the cursor joins these two points.
+pub fn line_joins(line: &Cursor, style: Style, later: u16, earlier: u16) -> bool
+    requires { line.now.at + line_size style ≤ length line.now.file.now }
+    ensures { result ≡ joins (line_at style line.now.file.now line.now.at) later earlier }
 {
-    if word_at(f, at + LATER_AT) != later {
-        return false;
-    }
-    word_at(f, at + EARLIER_AT) == earlier
+    word_at(line.file, line.at + LATER_AT) == later
+        && word_at(line.file, line.at + EARLIER_AT) == earlier
 }
 
-// The entry of the line record at `at`, as a call takes it. An earlier point that has no such form isn't placed: 0, which isn't placed either.
-pub fn entry_at(f: &[u8], style: Style, at: usize) -> u16
-    requires { at + line_size style ≤ length f.now }
-    ensures { result ≡ number_for (entry_in style (line_at style f.now at)) }
+// The entry of the line record at the cursor, as a call takes it. An earlier point that has no such form isn't placed: 0, which isn't placed either.
+pub fn entry_at(line: &Cursor, style: Style) -> u16
+    requires { line.now.at + line_size style ≤ length line.now.file.now }
+    ensures { result ≡ number_for (entry_in style (line_at style line.now.file.now line.now.at)) }
 {
-    let point = word_at(f, at + EARLIER_AT);
+    let point = word_at(line.file, line.at + EARLIER_AT);
     if POINT_LIMIT <= point {
         return 0;
     }
     let last = line_size(style) - KIND_SIZE;
-    let kind = words::kind_from(word_at(f, at + last));
+    let kind = words::kind_from(word_at(line.file, line.at + last));
     words::join(Entry { point, kind })
 }
 
-// Takes the group of point p from the `left` lines from `at` on, as entries into e; gives its number of lines.
-pub fn take_group(f: &[u8], style: Style, at: usize, left: usize, p: u16, e: &mut [u16]) -> usize
-    requires { (at + line_size style * left ≤ length f.now) × (left ≤ length e.old) }
-    ensures { Taken style f.now at left p e.new result }
+// Takes the group of point p from the `left` lines at the cursor, as entries into e; gives its number of lines.
+pub fn take_group(lines: &Cursor, style: Style, left: usize, p: u16, e: &mut [u16]) -> usize
+    requires { (lines.now.at + line_size style * left ≤ length lines.now.file.now) × (left ≤ length e.old) }
+    ensures { Taken style lines.now.file.now lines.now.at left p e.new result }
 {
     let size = line_size(style);
-    let mut here = at;
-    let mut i = 0;
-    while i < left {
-        if word_at(f, here + LATER_AT) != p {
+    for i in 0..left {
+        let line = lines.moved_to(lines.at + size * i);
+        if word_at(line.file, line.at + LATER_AT) != p {
             return i;
         }
-        e[i] = entry_at(f, style, here);
-        here += size;
-        i += 1;
+        e[i] = entry_at(&line, style);
     }
-    i
+    left
 }

@@ -1,10 +1,9 @@
 -- The bytes of a file from an offset on, and a record read there, by the file's length and the numbers in it.
-use Rattle.std.specs.Prelude.{ℕ, zero, suc, ◌+◌, ◌*◌, ◌<◌, ◌≤◌, ◌≡◌, refl, Bool, true, false, not, List, [], ◌∷◌, ◌++◌, length, take, drop, set, ltb, eqb}
+use Rattle.std.specs.Prelude.{ℕ, zero, suc, ◌+◌, ◌*◌, ◌<◌, ◌≤◌, ◌≡◌, refl, Bool, true, false, not, List, [], ◌∷◌, ◌++◌, length, take, drop, set, ltb, eqb, Ok, Err}
 use Rattle.std.proofs.Common.{ap, sym, ◌∙◌, add-one, arith, length-drop, drop-cons, drop-drop, get_or-drop, take-suc-set, lt-ltb, le-ltb, ltb-true, ltb-false}
-use Rattle.rules.specs.declared.Refusal.{Refusal}
 use Rattle.rules.specs.declared.Refusal.TheVariants.{FileEnds, WrongMark, ExtraBytes}
-use Rattle.rules.specs.declared.Answer.TheVariants.{Accepted, Refused}
-use Rattle.rules.specs.Refusals.{Result, good, refused, answer, ◌>>◌, refuse_if}
+use Rattle.rules.specs.declared.Refused.{Refused}
+use Rattle.rules.specs.Refusals.{Result, good, refused, answer, refusal_at, ◌>>◌, refuse_if}
 use Rattle.rules.specs.Records.{Shape, plain, Cursor, Found, words_in, words_at, rest_of, read_record, read_end, point_entries, end_shape, entries_mark, end_mark}
 use Rattle.words.specs.Bytes.{word_at}
 use Rattle.rules.proofs.Lengths.{length-words}
@@ -96,18 +95,18 @@ record_by r f at = go (ltb (length f) (at + 2)) refl
 
 module _ (r : Shape) (f : List ℕ) (at : ℕ) where
   -- the mark is refused
-  pub unmarked : (x : Refusal) (p : ℕ) → answer (mark_at r.mark f at) ≡ Refused x p → read_record r (cursor f at) ≡ refused x p
-  unmarked x p q = rw (record_by r f at, refusing (mark_at r.mark f at) x p q)
+  pub unmarked : (e : Refused) → answer (mark_at r.mark f at) ≡ Err e → read_record r (cursor f at) ≡ refused e.refusal e.place
+  unmarked e q = rw (record_by r f at, refusing (mark_at r.mark f at) e q)
 
   -- the mark is there
-  pub marked_by : answer (mark_at r.mark f at) ≡ Accepted → read_record r (cursor f at) ≡ rest_of at r.size (cursor f (at + 2))
+  pub marked_by : answer (mark_at r.mark f at) ≡ Ok tt → read_record r (cursor f at) ≡ rest_of at r.size (cursor f (at + 2))
   marked_by q = rw (record_by r f at, all_passed (mark_at r.mark f at) q)
 
 -- two bytes are there, where a mark was found
-pub mark_there : (mark : ℕ) (f : List ℕ) (at : ℕ) → answer (mark_at mark f at) ≡ Accepted → at + 2 ≤ length f
+pub mark_there : (mark : ℕ) (f : List ℕ) (at : ℕ) → answer (mark_at mark f at) ≡ Ok tt → at + 2 ≤ length f
 mark_there mark f at m = go (ltb (length f) (at + 2)) refl m
   where
-    go : (b : Bool) → ltb (length f) (at + 2) ≡ b → answer (refuse_if b FileEnds at >> refuse_if (not (eqb (word_at f at) mark)) WrongMark at) ≡ Accepted → at + 2 ≤ length f
+    go : (b : Bool) → ltb (length f) (at + 2) ≡ b → answer (refuse_if b FileEnds at >> refuse_if (not (eqb (word_at f at) mark)) WrongMark at) ≡ Ok tt → at + 2 ≤ length f
     go true q a = let z : ◌≡◌ {A = ℕ} 0 1 = cc in absurd (omega arith)
     go false q a = ltb-false (length f) (at + 2) q
 
@@ -115,7 +114,7 @@ mark_there mark f at m = go (ltb (length f) (at + 2)) refl m
 
 module _ (f : List ℕ) (at : ℕ) where
   -- one number, and nothing else
-  module _ (mark : ℕ) (m : answer (mark_at mark f at) ≡ Accepted) where
+  module _ (mark : ℕ) (m : answer (mark_at mark f at) ≡ Ok tt) where
     pub number_short : length f < at + 4 → read_record (plain_shape mark 1) (cursor f at) ≡ refused FileEnds at
     number_short l = marked_by (plain_shape mark 1) f at m ∙ short f (at + 2) at 1 (mark_there mark f at m) (omega arith)
 
@@ -125,7 +124,7 @@ module _ (f : List ℕ) (at : ℕ) where
         marked_by (plain_shape mark 1) f at m ∙ there f (at + 2) at 1 (omega arith) ∙ rw (one_left f (at + 2) (omega arith), ← q, four)
 
   -- a count, and that many
-  module _ (m : answer (mark_at entries_mark f at) ≡ Accepted) where
+  module _ (m : answer (mark_at entries_mark f at) ≡ Ok tt) where
     pub no_count : length f < at + 4 → read_record point_entries (cursor f at) ≡ refused FileEnds at
     no_count l = marked_by point_entries f at m ∙ rw (short f (at + 2) at 1 (mark_there entries_mark f at m) (omega arith))
 
@@ -141,18 +140,18 @@ module _ (f : List ℕ) (at : ℕ) where
     entries_there c l q = counted_by c (omega arith) q ∙ there f (at + 4) at c l
 
   -- nothing: the end record
-  module _ (m : answer (mark_at end_mark f at) ≡ Accepted) where
+  module _ (m : answer (mark_at end_mark f at) ≡ Ok tt) where
     end_by : read_record end_shape (cursor f at) ≡ found f at [] (at + 2)
     end_by =
         let none : at + 2 + 2 * 0 ≡ at + 2 = omega arith in
         marked_by end_shape f at m ∙ there f (at + 2) at 0 (omega (arith, mark_there end_mark f at m)) ∙ rw none
 
-    pub extra : at + 2 < length f → Refused ExtraBytes (at + 2) ≡ answer (read_end (cursor f at))
+    pub extra : at + 2 < length f → Err (refusal_at ExtraBytes (at + 2)) ≡ answer (read_end (cursor f at))
     extra l = rw (end_by, lt-ltb 0 (length (drop (at + 2) f)) (omega (arith, length-drop (at + 2) f)))
 
-    pub ended : length f ≤ at + 2 → Accepted ≡ answer (read_end (cursor f at))
+    pub ended : length f ≤ at + 2 → Ok tt ≡ answer (read_end (cursor f at))
     ended l = rw (end_by, le-ltb 0 (length (drop (at + 2) f)) (omega (arith, length-drop (at + 2) f)))
 
   -- no end record
-  pub no_end : (x : Refusal) (p : ℕ) → answer (mark_at end_mark f at) ≡ Refused x p → answer (mark_at end_mark f at) ≡ answer (read_end (cursor f at))
-  no_end x p q = q ∙ rw (unmarked end_shape f at x p q)
+  pub no_end : (e : Refused) → answer (mark_at end_mark f at) ≡ Err e → answer (mark_at end_mark f at) ≡ answer (read_end (cursor f at))
+  no_end e q = q ∙ rw (unmarked end_shape f at e q)

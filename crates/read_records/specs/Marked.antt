@@ -1,13 +1,12 @@
 -- Records of one size in a file, by their offsets: what 1 and 2 refuse, and what the records hold.
 use Prim.Native.Nat.{ℕ, zero, suc, ◌+◌, ◌-◌, ◌*◌, ◌<◌, ◌≤◌}
-use Rattle.std.specs.Prelude.{◌≡◌, Bool, true, false, List, [], ◌∷◌, length, get_or, drop, ltb}
+use Rattle.std.specs.Prelude.{◌≡◌, Bool, true, false, List, [], ◌∷◌, length, get_or, drop, ltb, Ok, Err}
 use Rattle.std.proofs.Math.Path.{refl, ap}
 use Rattle.std.proofs.Common.{◌∙◌, add-one, length-drop, drop-cons, drop-drop}
 use native.Mathlib.Omega.{arith}
 use borrow.Author.Tests.{lt-ltb, le-ltb, ltb-true, ltb-false}
-use Rattle.rules.specs.declared.Refusal.{Refusal}
 use Rattle.rules.specs.declared.Refusal.TheVariants.{FileEnds}
-use Rattle.rules.specs.declared.Answer.TheVariants.{Accepted, Refused}
+use Rattle.rules.specs.declared.Refused.{Refused}
 use Rattle.rules.specs.Refusals.{Result, good, refused, answer, ◌>>◌, ◌>>=◌, refuse_if}
 use Rattle.rules.specs.Records.{Found, Several, words_in, words_at, read_record, several, bytes_in}
 use Rattle.words.specs.Bytes.{word_at}
@@ -82,11 +81,11 @@ module _ (f : List ℕ) where
 
   -- what 1 and 2 say of it
   module _ (mark size at : ℕ) where
-    pub mark-refused : (r : Refusal) (p : ℕ) → answer (mark_at mark f at) ≡ Refused r p → record_test f mark size at ≡ refused r p
+    pub mark-refused : (e : Refused) → answer (mark_at mark f at) ≡ Err e → record_test f mark size at ≡ refused e.refusal e.place
     unfolding record_test
-    mark-refused r p h = rw (refusing (mark_at mark f at) r p h)
+    mark-refused e h = rw (refusing (mark_at mark f at) e h)
 
-    module _ (h : answer (mark_at mark f at) ≡ Accepted) where
+    module _ (h : answer (mark_at mark f at) ≡ Ok tt) where
       pub cut_off : length f < at + bytes_in size → record_test f mark size at ≡ refused FileEnds at
       unfolding record_test
       cut_off l = rw (all_passed (mark_at mark f at) h, lt-ltb (length f) (at + bytes_in size) l)

@@ -5,19 +5,19 @@ use mathlib.Core.Bool.{true, false}
 use mathlib.Core.List.{List, [], ◌∷◌}
 use native.Mathlib.Omega.{arith}
 use lib.ListN.{length}
+use Rattle.std.specs.Prelude.{Ok, Err}
 use borrow.Author.Tests.{eq-eqb, ne_eqb}
 use Rattle.rules.specs.declared.Style.{Style}
 use Rattle.rules.specs.declared.Refusal.{Refusal}
 use Rattle.rules.specs.declared.Refusal.TheVariants.{OutOfRange}
 use Rattle.rules.specs.Basics.{between}
-use Rattle.rules.specs.Refusals.{good, refused, ◌>>=◌}
+use Rattle.rules.specs.Refusals.{Answer, good, refused, ◌>>=◌}
 use Rattle.rules.specs.Records.{read_record, order_head, scale_shape, scale_mark}
 use Rattle.rules.specs.OrderFile.{given_scale, read_scale, read_points, read_order}
 use Rattle.words.specs.Bytes.{word_at}
 use Rattle.rules.specs.Bools.{in_range}
 use Rattle.read_records.specs.Cursors.{cursor, found, none_left, one_left}
 use Rattle.read_start.specs.declared.Head.{Head}
-use Rattle.read_start.specs.declared.Head.TheVariants as head
 use Rattle.read_start.specs.Heading.{ScaleRead, HeadRead}
 
 -- a scale is marked behind the header
@@ -64,8 +64,8 @@ module _ (f : List ℕ) where
     head_in b τ = rw (e, b)
 
     -- with the scale
-    pub head-scale : (h : Head) → between 3 1024 n ≡ true → ScaleRead f n h → HeadRead f h
-    head-scale (head.Given m s at) b t =
+    pub head-scale : (h : Answer Head) → between 3 1024 n ≡ true → ScaleRead f n h → HeadRead f h
+    head-scale (Ok h) b t =
         let r = in_range 3 1024 n b in
         (omega (arith, t.0, r.0), omega (arith, t.0, r.1), t.1, λ τ. head_in b τ ∙ rw (t.2, t.0))
-    head-scale (head.Refused r p) b t = λ τ. head_in b τ ∙ rw t
+    head-scale (Err e) b t = λ τ. head_in b τ ∙ rw t

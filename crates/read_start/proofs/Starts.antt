@@ -1,9 +1,10 @@
 -- The records of points 1 to 3: what each test makes of them.
 use Prim.Native.Nat.{ℕ, ◌+◌}
-use mathlib.Core.Path.{◌≡◌, sym, ◌∙◌}
+use mathlib.Core.Path.{◌≡◌, sym, ◌∙◌, subst}
 use mathlib.Core.Bool.{true, false, ◌||◌}
 use mathlib.Core.List.{List, [], ◌∷◌, map}
 use native.Mathlib.Omega.{arith}
+use Rattle.std.specs.Prelude.{Ok, Err}
 use lib.ListN.{length, drop, length-map}
 use borrow.Author.Tests.{eq-eqb, ne_eqb}
 use Rattle.rules.specs.declared.Style.{Style}
@@ -14,7 +15,7 @@ use Rattle.rules.specs.declared.Reading.TheVariants.{Given}
 use Rattle.rules.specs.Basics.{same, any_of}
 use Rattle.rules.specs.Bools.{neither}
 use Rattle.rules.specs.Same.{other_length}
-use Rattle.rules.specs.Refusals.{refused}
+use Rattle.rules.specs.Refusals.{Answer, refused}
 use Rattle.rules.specs.Entries.{read_entry, is_both, point_read, points_read}
 use Rattle.rules.specs.Readings.{entry_of}
 use Rattle.rules.proofs.Readings.{entry_read}
@@ -25,12 +26,18 @@ use Rattle.words.specs.Bytes.{word_at}
 use Rattle.read_records.specs.Cursors.{cursor, one_left, two_left, words_count}
 use Rattle.read_records.specs.Reading.{Got}
 use Rattle.read_start.specs.declared.Start.{Start}
-use Rattle.read_start.specs.declared.Start.TheVariants as start
 use Rattle.read_start.specs.Starting.{third_from, second_from, points_from, Begun, StartRead}
 
 -- entries of another count are not the same
 other_count : (ws wanted : List ℕ) → (length ws ≡ length wanted → ⊥) → same (points_read (map read_entry ws)) wanted ≡ false
 other_count ws wanted n = other_length (points_read (map read_entry ws)) wanted (λ q. n (sym (length-map (map read_entry ws) point_read ∙ length-map ws read_entry) ∙ q))
+
+-- a record whose count is known
+pub counted : {f : List ℕ} {at c d from next : ℕ} → Got f at c from next → c ≡ d → Got f at d from next
+counted {f = f} {at = at} {from = from} {next = next} g h = subst (λ (n : ℕ). Got f at n from next) h g
+
+pub none_both : (f : List ℕ) (from : ℕ) {c d : ℕ} → c ≡ d → any_of is_both (map read_entry (words_in c (drop from f))) ≡ false → any_of is_both (map read_entry (words_in d (drop from f))) ≡ false
+none_both f from h o = subst (λ (n : ℕ). any_of is_both (map read_entry (words_in n (drop from f))) ≡ false) h o
 
 -- the record is refused
 module _ (f : List ℕ) (at : ℕ) (r : Refusal) (p : ℕ) (h : read_record point_entries (cursor f at) ≡ refused r p) (τ : Style) (n s : ℕ) where
@@ -70,10 +77,10 @@ module _ {f : List ℕ} {at c from next : ℕ} (g : Got f at c from next) where
 
 -- point 1's record has no entry
 module _ {f : List ℕ} {at from next : ℕ} (g : Got f at 0 from next) where
-  pub first_in : (o : Start) → StartRead f (second_from (cursor f next)) o → StartRead f (points_from (cursor f at)) o
+  pub first_in : (o : Answer Start) → StartRead f (second_from (cursor f next)) o → StartRead f (points_from (cursor f at)) o
   unfolding read_points
-  first_in (start.Given a b c o) h = record { room = h.room; first = h.first; second = h.second; third = h.third; rest = λ τ n s. rw g.is (h.rest τ n s) }
-  first_in (start.Refused r p) h = λ τ n s. rw g.is (h τ n s)
+  first_in (Ok t) h = record { room = h.room; first = h.first; second = h.second; third = h.third; rest = λ τ n s. rw g.is (h.rest τ n s) }
+  first_in (Err e) h = λ τ n s. rw g.is (h τ n s)
 
 -- point 2's record has one, a
 module _ {f : List ℕ} {at from next : ℕ} (g : Got f at 1 from next) (o : any_of is_both (map read_entry (words_in 1 (drop from f))) ≡ false) {a : ℕ} (is-a : a ≡ word_at f from) where
@@ -89,9 +96,9 @@ module _ {f : List ℕ} {at from next : ℕ} (g : Got f at 1 from next) (o : any
   second_by : point_in a ≡ 1 → (τ : Style) (n s : ℕ) → second_from (cursor f at) τ n s ≡ third_from (entry_of a ∷ []) (cursor f next) τ n s
   second_by w τ n s = rw (g.is, one, given, eq-eqb (point_in a) 1 w)
 
-  pub second_in : point_in a ≡ 1 → (o : Start) → StartRead f (third_from (entry_of a ∷ []) (cursor f next)) o → StartRead f (second_from (cursor f at)) o
-  second_in w (start.Given x b c o) h = record { room = h.room; first = h.first; second = h.second; third = h.third; rest = λ τ n s. second_by w τ n s ∙ h.rest τ n s }
-  second_in w (start.Refused r p) h = λ τ n s. second_by w τ n s ∙ h τ n s
+  pub second_in : point_in a ≡ 1 → (o : Answer Start) → StartRead f (third_from (entry_of a ∷ []) (cursor f next)) o → StartRead f (second_from (cursor f at)) o
+  second_in w (Ok t) h = record { room = h.room; first = h.first; second = h.second; third = h.third; rest = λ τ n s. second_by w τ n s ∙ h.rest τ n s }
+  second_in w (Err e) h = λ τ n s. second_by w τ n s ∙ h τ n s
 
 -- point 3's record has two, b and c
 module _ {f : List ℕ} {at from next : ℕ} (g : Got f at 2 from next) (o : any_of is_both (map read_entry (words_in 2 (drop from f))) ≡ false) {b c : ℕ} (is_b : b ≡ word_at f from) (is_c : c ≡ word_at f (from + 2)) where

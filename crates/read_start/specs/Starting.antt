@@ -1,8 +1,8 @@
 -- The records of points 1 to 3, for any style, n and s: `read_points`, one record at a time.
-use Rattle.std.specs.Prelude.{ℕ, ◌-◌, ◌≤◌, ◌≡◌, List, [], ◌∷◌, length}
+use Rattle.std.specs.Prelude.{ℕ, ◌-◌, ◌≤◌, ◌≡◌, List, [], ◌∷◌, length, Ok, Err}
 use Rattle.rules.specs.declared.Style.{Style}
 use Rattle.rules.specs.declared.Entry.{Entry}
-use Rattle.rules.specs.Refusals.{Result, refused, ◌>>◌, ◌>>=◌}
+use Rattle.rules.specs.Refusals.{Answer, Result, refused, ◌>>◌, ◌>>=◌}
 use Rattle.rules.specs.Entries.{given_in}
 use Rattle.rules.specs.Readings.{entry_of}
 use Rattle.rules.specs.Points.{Drawing}
@@ -11,7 +11,6 @@ use Rattle.rules.specs.OrderFile.{record_tests, start_with, entries_in, read_res
 use Rattle.store_links.specs.Judging.{point_in}
 use Rattle.read_records.specs.Cursors.{cursor}
 use Rattle.read_start.specs.declared.Start.{Start}
-use Rattle.read_start.specs.declared.Start.TheVariants as start
 
 -- point 3's record and the rest, with the entries of point 2
 abbrev pub third_from : List Entry → Cursor → Style → ℕ → ℕ → Result Drawing
@@ -39,6 +38,6 @@ pub record Begun (f : List ℕ) (from : Style → ℕ → ℕ → Result Drawing
   pub rest : (τ : Style) (n s : ℕ) → from τ n s ≡ read_rest (n - 3) (start_with τ n s (entry_of a ∷ []) (entry_of b ∷ entry_of c ∷ [])) (cursor f next)
 
 -- what reading from there gives, for any style, n and s
-abbrev pub StartRead : List ℕ → (Style → ℕ → ℕ → Result Drawing) → Start → Type 0
-StartRead f from (start.Given a b c next) = Begun f from a b c next
-StartRead f from (start.Refused r p) = (τ : Style) (n s : ℕ) → from τ n s ≡ refused r p
+abbrev pub StartRead : List ℕ → (Style → ℕ → ℕ → Result Drawing) → Answer Start → Type 0
+StartRead f from (Ok t) = Begun f from t.a t.b t.c t.at
+StartRead f from (Err e) = (τ : Style) (n s : ℕ) → from τ n s ≡ refused e.refusal e.place

@@ -1,13 +1,12 @@
 -- What is known of a call that passes the tests before 25, and how each outcome answers it.
-use Rattle.std.specs.Prelude.{ℕ, ◌+◌, ◌-◌, ◌/◌, ◌<◌, ◌≤◌, ◌≡◌, refl, Bool, true, false, not, List, map, length}
+use Rattle.std.specs.Prelude.{ℕ, ◌+◌, ◌-◌, ◌/◌, ◌<◌, ◌≤◌, ◌≡◌, refl, Bool, true, false, not, List, map, length, Option, Some, None, Ok, Err}
 use Rattle.std.proofs.Common.{sym, ap, ◌∙◌, subst, arith}
 use Rattle.rules.specs.declared.Style.{Style}
 use Rattle.rules.specs.declared.Style.TheVariants.{OneBend, Straight}
-use Rattle.rules.specs.declared.Answer.{Answer}
-use Rattle.rules.specs.declared.Answer.TheVariants.{Accepted, Refused}
-use Rattle.rules.specs.declared.Refusal.{Refusal}
+use Rattle.rules.specs.declared.Refused.{Refused}
 use Rattle.rules.specs.declared.Refusal.TheVariants.{NoReach}
-use Rattle.rules.specs.Refusals.{Result, good, refused, ◌>>◌, refuse_if, answer}
+use Rattle.rules.specs.Refusals.{Result, good, refused, ◌>>◌, refuse_if, answer, refusal_at}
+use Rattle.rules.specs.Results.{refusing}
 use Rattle.rules.specs.Styles.{taken, reach_passes}
 use Rattle.rules.specs.Entries.{read_entry}
 use Rattle.rules.specs.Readings.{entry_of}
@@ -25,7 +24,6 @@ use Rattle.store_laws.specs.Reading.{run-size}
 use Rattle.store_laws.specs.Spots.{Bounded, bounded}
 use Rattle.store_laws.specs.Step.{lines_fit}
 use Rattle.store_judging.specs.Passed.{within_up}
-use Rattle.store_placing.specs.declared.Ports.{Ports}
 use Rattle.store_placing.specs.Ports.{from_told, none_told}
 use Rattle.store_placing.specs.Small.{Small}
 use Rattle.store_calls.specs.Storable.{Storable}
@@ -130,11 +128,6 @@ module _ {a : Arrays} {c : Counts} {es : List ℕ} (p : Passing a c es) where
 
 -- ---- the three outcomes
 
--- an answer that refuses comes from a refusal
-refused_is : (r : Result (Unit {0})) (f : Refusal) (p : ℕ) → answer r ≡ Refused f p → r ≡ refused f p
-refused_is (good tt) f p h = cc
-refused_is (refused g q) f p h = cc
-
 -- judged, once the tests before 25 are known
 judged_by : (a : Arrays) (c : Counts) (es : List ℕ) (r : Result (Unit {0})) → tests a c es ≡ r →
     judged a c es ≡ (r >> refuse_if (not (reach_passes c.style (all_reach_from (spot_for c.style a es) a.gap a.ys es 1 (inner_count es)))) NoReach 0)
@@ -142,12 +135,12 @@ unfolding judged
 judged_by a c es r e = ap (λ j. j >> refuse_if (not (reach_passes c.style (all_reach_from (spot_for c.style a es) a.gap a.ys es 1 (inner_count es)))) NoReach 0) e
 
 -- A refused call leaves everything.
-stays : (a : Arrays) (c : Counts) (es : List ℕ) (v : Answer) (f : Refusal) (p : ℕ) → v ≡ Refused f p → judged a c es ≡ refused f p → Answered a c es a (record { answer = v; counts = c })
-stays a c es v f p q j = record { answer = rw j q; arrays = rw j; counts = rw j }
+stays : (a : Arrays) (c : Counts) (es : List ℕ) (f : Refused) → judged a c es ≡ refused f.refusal f.place → Answered a c es a (Err f)
+stays a c es f j = record { answer = rw j; arrays = rw j }
 
 -- The tests before 25 refuse.
-pub refused-early : (a : Arrays) (c : Counts) (es : List ℕ) (v : Answer) (f : Refusal) (p : ℕ) → v ≡ answer (tests a c es) → v ≡ Refused f p → Answered a c es a (record { answer = v; counts = c })
-refused-early a c es v f p said is = stays a c es v f p is (judged_by a c es (refused f p) (refused_is (tests a c es) f p (sym said ∙ is)))
+pub refused-early : (a : Arrays) (c : Counts) (es : List ℕ) (f : Refused) → answer (tests a c es) ≡ Err f → Answered a c es a (Err f)
+refused-early a c es f is = stays a c es f (judged_by a c es (refused f.refusal f.place) (refusing (tests a c es) f is))
 
 -- Straight lines have no port, so they are stored alike wherever ports change.
 codes_alike : (τ : Style) → τ ≡ Straight → (rights lefts last f g : ℕ) → code_of τ rights lefts last f ≡ code_of τ rights lefts last g
@@ -173,21 +166,21 @@ module _ (a : Arrays) (c : Counts) (es : List ℕ) (o : Spot) (all_good : tests 
   reach_by b e = judged_by a c es (good tt) all_good ∙ rw (sym e, at)
 
   -- 25 refuses, which it does only where lines bend.
-  pub refused-late : (r : Ports) → r ≡ ports_by c.style (length es - 1) change all → r ≡ Ports.NoReach → Answered a c es a (record { answer = Refused NoReach 0; counts = c })
-  refused-late r e q = stays a c es (Refused NoReach 0) NoReach 0 refl (reach_by false (told c.style (sym e ∙ q)))
+  pub refused-late : (r : Option ℕ) → r ≡ ports_by c.style (length es - 1) change all → r ≡ None → Answered a c es a (Err (refusal_at NoReach 0))
+  refused-late r e q = stays a c es (refusal_at NoReach 0) (reach_by false (told c.style (sym e ∙ q)))
     where
-      told : (τ : Style) → ports_by τ (length es - 1) change all ≡ Ports.NoReach → reach_passes τ all ≡ false
+      told : (τ : Style) → ports_by τ (length es - 1) change all ≡ None → reach_passes τ all ≡ false
       told OneBend h = none_told change all h
       told Straight h = absurd (let z : ◌≡◌ {A = ℕ} 0 1 = cc in omega arith)
 
   -- The call is accepted.
-  pub accepts : (r : Ports) → r ≡ ports_by c.style (length es - 1) change all → (from : ℕ) → r ≡ Ports.From from →
-      (a' : Arrays) → a' ≡ with_point a c es o from → (n : Counts) → n ≡ with_counts c (length es) → Answered a c es a' (record { answer = Accepted; counts = n })
+  pub accepts : (r : Option ℕ) → r ≡ ports_by c.style (length es - 1) change all → (from : ℕ) → r ≡ Some from →
+      (a' : Arrays) → a' ≡ with_point a c es o from → (n : Counts) → n ≡ with_counts c (length es) → Answered a c es a' (Ok n)
   accepts r e from q a' stored n counted =
       let t = told c.style refl (sym e ∙ q) in
       let j : judged a c es ≡ good tt = reach_by true t.0 in
-      record { answer = rw j; arrays = rw j (stored ∙ t.1 ∙ rw at); counts = rw j counted }
+      record { answer = rw j (ap Ok counted); arrays = rw j (stored ∙ t.1 ∙ rw at) }
     where
-      told : (τ : Style) → c.style ≡ τ → ports_by τ (length es - 1) change all ≡ Ports.From from → (reach_passes τ all ≡ true) × (with_point a c es o from ≡ with_point a c es o change)
+      told : (τ : Style) → c.style ≡ τ → ports_by τ (length es - 1) change all ≡ Some from → (reach_passes τ all ≡ true) × (with_point a c es o from ≡ with_point a c es o change)
       told OneBend b h = let t = from_told change from all h in (t.0, ap (with_point a c es o) t.1)
       told Straight b h = (refl, stored-alike a c es o b from change)

@@ -12,8 +12,7 @@ ghost use Rattle.store_placing.specs.Small.{Small};
 ghost use Rattle.store_adding.specs.Calls.{Runs, ports_by, Answered};
 
 use rules::{Answer, Refusal, Style};
-use store_links::{Added, Counts, Spot};
-use store_placing::Ports;
+use store_links::{Counts, Spot};
 use store_tables::{DLS, DRS, GAP, NEXT, OWNER, YS};
 
 // The index at which the arrays keep the point of entry i.
@@ -44,44 +43,32 @@ fn spot_over(style: Style, e: &[u16], table: &[u16]) -> Spot
     )
 }
 
-// Which middle ports the inner points take, or 25. Straight lines take none: nothing is tested, and any index does.
+// From which index on the inner points take the next middle port, or none, which is 25. Straight lines take no port: nothing is tested, and any index does.
 #[tactic(auto, unfolding(store_tables::specs::Tables::arrays_in))]
-fn ports_over(style: Style, e: &[u16], table: &[u16], p: Spot) -> Ports
+fn ports_over(style: Style, e: &[u16], table: &[u16], p: Spot) -> Option<usize>
     requires { Runs e.now (arrays_in table.now) × Small p × Full table.now }
     ensures { let a = arrays_in table.now in let es = e.now in
         result ≡ ports_by style (length es - 1) (change_from p a.gap a.ys es 1 (inner_count es)) (all_reach_from p a.gap a.ys es 1 (inner_count es)) }
 {
     let Style::OneBend = style else {
-        return Ports::From(e.len() - 1);
+        return Some(e.len() - 1);
     };
     store_placing::ports_of(p, &table[GAP..OWNER], &table[YS..DLS], e)
 }
 
-// Adds a point with the entries e as its earlier neighbours, or refuses and leaves the table as it is.
+// Adds a point with the entries e as its earlier neighbours, and gives the numbers after it; or refuses and leaves the table as it is.
 #[tactic(auto, unfolding(store_tables::specs::Tables::arrays_in))]
-pub fn add(table: &mut [u16], c: Counts, e: &[u16]) -> Added
+pub fn add(table: &mut [u16], c: Counts, e: &[u16]) -> Answer<Counts>
     requires { Ready (arrays_in table.old) c × Full table.old }
     ensures { Answered (arrays_in table.old) c e.now (arrays_in table.new) result }
 {
-    let verdict = store_judging::judge(e, &table[OWNER..YS], &table[NEXT..GAP], c);
-    let Answer::Accepted = verdict else {
-        return Added {
-            answer: verdict,
-            counts: c,
-        };
-    };
+    store_judging::judge(e, &table[OWNER..YS], &table[NEXT..GAP], c)?;
     let style = c.style;
     let p = spot_over(style, e, table);
     let ports = ports_over(style, e, table, p);
-    let Ports::From(from) = ports else {
-        return Added {
-            answer: Answer::Refused(Refusal::NoReach, 0),
-            counts: c,
-        };
+    let Some(from) = ports else {
+        return Err(Refusal::NoReach.at(0));
     };
     store_calls::store(table, c, e, p, from);
-    Added {
-        answer: Answer::Accepted,
-        counts: store_links::counts_with(c, e.len()),
-    }
+    Ok(store_links::counts_with(c, e.len()))
 }

@@ -1,5 +1,5 @@
 -- The first cut line that ends at a point, read from the arrays.
-use Rattle.std.specs.Prelude.{ℕ, ◌<◌, ◌≤◌, ◌≡◌, refl, Bool, true, false, ◌&&◌, ◌||◌, length, get_or, eqb}
+use Rattle.std.specs.Prelude.{ℕ, ◌<◌, ◌≡◌, refl, Bool, true, false, ◌&&◌, ◌||◌, length, get_or, Option, Some, None, Ok, Err, eqb}
 use Rattle.std.proofs.Common.{sym, ◌∙◌, arith, eq-eqb, ne_eqb}
 use Rattle.std.proofs.Math.Path.{ap}
 use Rattle.rules.specs.declared.Entry.{Entry}
@@ -14,7 +14,7 @@ use Rattle.rules.specs.Lookups.{CutLineAt, LooksCut}
 use Rattle.store_links.specs.declared.Counts.{Counts}
 use Rattle.store_links.specs.Arrays.{Arrays}
 use Rattle.store_laws.specs.Adding.{Holds}
-use Rattle.answers.specs.declared.CutSeen.TheVariants as Cut
+use Rattle.rules.specs.Refusals.{refusal_at}
 use Rattle.answers.specs.Told.{told_cut}
 
 -- a line with this entry and this later point is cut and ends at p
@@ -36,11 +36,16 @@ module _ (x : Entry) (later p : ℕ) where
 unfoldable pub cut_at : Arrays → ℕ → ℕ → Bool
 cut_at a p e = cut_to (entry_of (get_or a.words e 0)) (get_or a.later e 0) p
 
--- r is the first such line of `lines` lines, or `lines` where there is none
-pub record FirstCut (a : Arrays) (lines p r : ℕ) : Type 0 where
-  pub within : r ≤ lines
+-- r is the first such line of `lines` lines
+pub record IsFirst (a : Arrays) (lines p r : ℕ) : Type 0 where
+  pub within : r < lines
   pub before : (e : ℕ) → e < r → cut_at a p e ≡ false
-  pub found : r < lines → cut_at a p r ≡ true
+  pub found : cut_at a p r ≡ true
+
+-- the first such line, or that there is none
+abbrev pub FirstCut : Arrays → ℕ → ℕ → Option ℕ → Type 0
+FirstCut a lines p (Some r) = IsFirst a lines p r
+FirstCut a lines p None = (e : ℕ) → e < lines → cut_at a p e ≡ false
 
 module _ {q : Plan} {a : Arrays} {c : Counts} (h : Holds q a c) (p : ℕ) where
   -- The test on the arrays is the rules' on the drawing.
@@ -50,28 +55,25 @@ module _ {q : Plan} {a : Arrays} {c : Counts} (h : Holds q a c) (p : ℕ) where
       let t = h.stores.entry e el in
       rw (h.stores.later e el, ap (λ (x : Entry). x.point) t, ap (λ (x : Entry). x.kind) t)
 
-  module _ (r : ℕ) (f : FirstCut a c.lines p r) (is : between 1 c.k p ≡ true) where
+  module _ (is : between 1 c.k p ≡ true) where
     point_there : between 1 q.k p ≡ true
     point_there = rw h.stores.k at is
 
-    -- A line that was found is one.
-    pub finds : r < c.lines → LooksCut q p (told_cut (Cut.Line r))
-    finds b =
-        let el : r < length q.lines = omega (arith, h.stores.lines) in
-        let t = both (is_cut (line_at q r).kind) (ends_at p (line_at q r)) (sym (cut_is r el) ∙ f.found b) in
+    -- A line that was found is one; where none was found there is none.
+    pub finds : (o : Option ℕ) → FirstCut a c.lines p o → LooksCut q p (told_cut (Ok o))
+    finds (Some r) f =
+        let el : r < length q.lines = omega (arith, f.within, h.stores.lines) in
+        let t = both (is_cut (line_at q r).kind) (ends_at p (line_at q r)) (sym (cut_is r el) ∙ f.found) in
         (point_there, record { there = el; cuts = t.0; ends = t.1 })
-
-    -- Where none was found there is none.
-    pub finds_none : c.lines ≤ r → LooksCut q p (told_cut Cut.Nothing)
-    finds_none b = (point_there, λ e t. none e t)
+    finds None f = (point_there, λ e t. none e t)
       where
         none : (e : ℕ) → CutLineAt q p e → ⊥
         none e t =
-            let z : cut_at a p e ≡ false = f.before e (omega (arith, t.there, h.stores.lines)) in
+            let z : cut_at a p e ≡ false = f e (omega (arith, t.there, h.stores.lines)) in
             let y : cut_at a p e ≡ true = cut_is e t.there ∙ rw (t.cuts, t.ends) in
             let x : ◌≡◌ {A = ℕ} 0 1 = cc in
             omega arith
 
   -- No such point.
-  pub no_point_cut : between 1 c.k p ≡ false → LooksCut q p (told_cut (Cut.Refused NoSuch 0))
+  pub no_point_cut : between 1 c.k p ≡ false → LooksCut q p (told_cut (Err (refusal_at NoSuch 0)))
   no_point_cut b = (rw h.stores.k at b, refl, refl)

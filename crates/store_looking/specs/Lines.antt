@@ -1,5 +1,5 @@
 -- A line, read from the arrays, is the drawing's; so are its bend and where that lies, where lines bend.
-use Rattle.std.specs.Prelude.{ℕ, ◌<◌, ◌≤◌, ◌≡◌, List, length}
+use Rattle.std.specs.Prelude.{Ok, Err, ℕ, ◌<◌, ◌≤◌, ◌≡◌, List, length}
 use Rattle.std.proofs.Common.{sym, ap, ◌∙◌, arith, le-ltb, lt-ltb}
 use Rattle.rules.specs.declared.Style.{Style}
 use Rattle.rules.specs.declared.Style.TheVariants.{OneBend, Straight}
@@ -7,7 +7,7 @@ use Rattle.rules.specs.declared.Line.{Line}
 use Rattle.rules.specs.Points.{Drawing as Plan, line_at}
 use Rattle.rules.specs.Ports.{bend_place}
 use Rattle.rules.specs.Styles.{seen}
-use Rattle.rules.specs.Refusals.{good}
+use Rattle.rules.specs.Refusals.{good, refusal_at}
 use Rattle.rules.specs.Lookups.{look_line}
 use Rattle.rules.specs.declared.Refusal.TheVariants.{NoSuch}
 use Rattle.store_links.specs.declared.Counts.{Counts}
@@ -46,16 +46,16 @@ module _ {q : Plan} {a : Arrays} {c : Counts} {xs : List ℕ} (h : Holds q a c) 
       (ap (λ (σ : Style). line_seen (good (seen σ (line_at q e) (bend_place q (line_at q e))))) (sym h.stores.style ∙ b))
 
   -- A line with its bend.
-  pub line_seen_lem : c.style ≡ OneBend → Line.Bent l (bend_in xs a l.later l.earlier l.bend) ≡ line_seen (look_line q e)
+  pub line_seen_lem : c.style ≡ OneBend → Ok (Line.Bent l (bend_in xs a l.later l.earlier l.bend)) ≡ line_seen (look_line q e)
   line_seen_lem b =
       let v = line_at q e in
       let p = ends h.standing e el in
       rw (read, bend_right shows v.later v.earlier p.0 p.1 p.2 p.3 v.bend) (sym (seen_by OneBend b))
 
   -- A straight line.
-  pub straight_seen : c.style ≡ Straight → Line.Straight l ≡ line_seen (look_line q e)
+  pub straight_seen : c.style ≡ Straight → Ok (Line.Straight l) ≡ line_seen (look_line q e)
   straight_seen b = rw read (sym (seen_by Straight b))
 
 -- no such line
-pub no_line_lem : {q : Plan} {a : Arrays} {c : Counts} → Holds q a c → (e : ℕ) → c.lines ≤ e → Line.Refused NoSuch 0 ≡ line_seen (look_line q e)
+pub no_line_lem : {q : Plan} {a : Arrays} {c : Counts} → Holds q a c → (e : ℕ) → c.lines ≤ e → Err (refusal_at NoSuch 0) ≡ line_seen (look_line q e)
 no_line_lem {q} h e b = rw (le-ltb e (length q.lines) (omega (arith, h.stores.lines)))

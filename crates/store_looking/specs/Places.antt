@@ -1,5 +1,5 @@
 -- The places of points, from the settled x and the heights.
-use Rattle.std.specs.Prelude.{ℕ, pred, ◌-◌, ◌<◌, ◌≤◌, ◌≡◌, refl, true, false, List, get_or, take}
+use Rattle.std.specs.Prelude.{Ok, Err, ℕ, pred, ◌-◌, ◌<◌, ◌≤◌, ◌≡◌, refl, true, false, List, get_or, take}
 use Rattle.std.proofs.Common.{arith}
 use Rattle.rules.specs.declared.Refusal.TheVariants.{NoSuch}
 use Rattle.rules.specs.Basics.{between}
@@ -13,7 +13,7 @@ use Rattle.store_links.specs.Opening.{no_points}
 use Rattle.store_laws.specs.Adding.{Holds, Ready}
 use Rattle.store_settling.specs.Placed.{Settleable, Settled, settleable_of, placed_at}
 use Rattle.store_tables.specs.Tables.{arrays_in}
-use Rattle.answers.specs.declared.PointSeen.TheVariants as Point
+use Rattle.rules.specs.Refusals.{refusal_at}
 use Rattle.answers.specs.Told.{point_seen}
 
 -- counts and table hold a drawing, and x is settled
@@ -41,13 +41,13 @@ module _ {q : Plan} {a : Arrays} {c : Counts} {xs : List ℕ} (h : Holds q a c) 
         rw i (first_at l _ q.k (pred p) e b)
 
     -- The place of a point.
-    pub point_seen_lem : Point.At (at (get_or xs (p - 1) 0) (get_or a.ys (p - 1) 0)) ≡ point_seen (look_point q p)
+    pub point_seen_lem : Ok (at (get_or xs (p - 1) 0) (get_or a.ys (p - 1) 0)) ≡ point_seen (look_point q p)
     point_seen_lem =
         let i : between 1 q.k p ≡ true = rw h.stores.k at is in
         rw (there xs settled-xs, there a.ys h.stores.ys, i)
 
 -- No such point.
-pub no_point_lem : {q : Plan} {a : Arrays} {c : Counts} → Holds q a c → (p : ℕ) → between 1 c.k p ≡ false → Point.Refused NoSuch 0 ≡ point_seen (look_point q p)
+pub no_point_lem : {q : Plan} {a : Arrays} {c : Counts} → Holds q a c → (p : ℕ) → between 1 c.k p ≡ false → Err (refusal_at NoSuch 0) ≡ point_seen (look_point q p)
 no_point_lem {q} h p b =
     let i : between 1 q.k p ≡ false = rw h.stores.k at b in
     rw i

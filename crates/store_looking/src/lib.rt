@@ -15,8 +15,8 @@ ghost use Rattle.store_settling.specs.Placed.{Settleable, Settled};
 ghost use Rattle.store_looking.specs.Places.{Looks};
 ghost use Rattle.store_looking.specs.Cuts.{cut_to, FirstCut};
 
-use answers::{CutSeen, LineSeen, PointSeen};
-use rules::{Place, Refusal, Style};
+use answers::LineSeen;
+use rules::{Answer, Place, Refusal, Style};
 use store_links::Counts;
 use store_tables::{LATER, POINTS, Table, WORDS, YS};
 
@@ -39,38 +39,37 @@ fn is_point(k: usize, p: usize) -> bool
 
 // A point's place, from the table and its settled x.
 #[tactic(auto, unfolding(store_tables::specs::Tables::arrays_in))]
-pub fn look_point(table: &Table, x: &[u16; POINTS], c: Counts, p: usize) -> PointSeen
+pub fn look_point(table: &Table, x: &[u16; POINTS], c: Counts, p: usize) -> Answer<Place>
     requires { Looks c table.now x.now }
     ensures { (q : Plan) → Holds q (arrays_in table.now) c → result ≡ point_seen (look_point q p) }
 {
     if !is_point(c.k, p) {
-        return PointSeen::Refused(Refusal::NoSuch, 0);
+        return Err(Refusal::NoSuch.at(0));
     }
     let i = p - 1;
-    PointSeen::At(Place {
+    Ok(Place {
         x: x[i],
         y: table[YS + i],
     })
 }
 
 // A line with its ends, bend and kind, and where its bend lies, from the table and its settled x. A straight one has no bend.
-pub fn look_line(table: &Table, x: &[u16; POINTS], c: Counts, e: usize) -> LineSeen
+pub fn look_line(table: &Table, x: &[u16; POINTS], c: Counts, e: usize) -> Answer<LineSeen>
     requires { Looks c table.now x.now }
     ensures { (q : Plan) → Holds q (arrays_in table.now) c → result ≡ line_seen (look_line q e) }
 {
     if c.lines <= e {
-        return LineSeen::Refused(Refusal::NoSuch, 0);
+        return Err(Refusal::NoSuch.at(0));
     }
     let l = store_lines::line_in(table, e);
     let style = c.style;
     let Style::OneBend = style else {
-        return LineSeen::Straight(l);
+        return Ok(LineSeen::Straight(l));
     };
-    let to = words::broad(l.later);
-    let from = words::broad(l.earlier);
-    let b = l.bend;
-    let at = store_settling::bend_of(x, table, to, from, b);
-    LineSeen::Bent(l, at)
+    let to = usize::from(l.later);
+    let from = usize::from(l.earlier);
+    let at = store_settling::bend_of(x, table, to, from, l.bend);
+    Ok(LineSeen::Bent(l, at))
 }
 
 // A line with this entry and this later point is cut and ends at p.
@@ -79,37 +78,30 @@ fn is_cut_to(word: u16, later: u16, p: usize) -> bool
 {
     let x = words::entry_of(word);
     let kind = x.kind;
-    words::is_cut(kind) && (words::broad(later) == p || words::broad(x.point) == p)
+    words::is_cut(kind) && (usize::from(later) == p || usize::from(x.point) == p)
 }
 
-// The first cut line that ends at p, or the number of lines.
+// The first cut line that ends at p.
 #[tactic(auto, unfolding(store_tables::specs::Tables::arrays_in, crate::specs::Cuts::cut_at))]
-fn first_cut(table: &Table, lines: usize, p: usize) -> usize
+fn first_cut(table: &Table, lines: usize, p: usize) -> Option<usize>
     requires { lines ≤ 3072 }
     ensures { FirstCut (arrays_in table.now) lines p result }
 {
-    let mut e = 0;
-    while e < lines {
+    for e in 0..lines {
         if is_cut_to(table[WORDS + e], table[LATER + e], p) {
-            return e;
+            return Some(e);
         }
-        e += 1;
     }
-    e
+    None
 }
 
 // Some cut line that ends at p, or that there is none.
-pub fn look_cut(table: &Table, c: Counts, p: usize) -> CutSeen
+pub fn look_cut(table: &Table, c: Counts, p: usize) -> Answer<Option<usize>>
     requires { Ready (arrays_in table.now) c }
     ensures { (q : Plan) → Holds q (arrays_in table.now) c → LooksCut q p (told_cut result) }
 {
     if !is_point(c.k, p) {
-        return CutSeen::Refused(Refusal::NoSuch, 0);
+        return Err(Refusal::NoSuch.at(0));
     }
-    let e = first_cut(table, c.lines, p);
-    if e < c.lines {
-        CutSeen::Line(e)
-    } else {
-        CutSeen::Nothing
-    }
+    Ok(first_cut(table, c.lines, p))
 }

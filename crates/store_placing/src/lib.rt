@@ -16,13 +16,6 @@ use store_links::Spot;
 use styles::{amount, inset};
 use words::point_of;
 
-// Which middle ports the inner points take: port i + 1 from an index on, and port i before it. Or 25.
-#[derive(Clone, Copy)]
-pub enum Ports {
-    From(usize),
-    NoReach,
-}
-
 // A stored number, to compute with.
 fn broad(x: u16) -> usize
     ensures { (result ≡ x) × (result < 65536) }
@@ -160,18 +153,19 @@ fn all_reach(p: Spot, gap: &[u16], ys: &[u16], e: &[u16]) -> bool
     true
 }
 
-// Step 5: the ports of the inner points. Where port i reaches every one, 25 isn't looked for.
-pub fn ports_of(p: Spot, gap: &[u16], ys: &[u16], e: &[u16]) -> Ports
+// Step 5: which middle ports the inner points take: port i + 1 from this index on, and port i before it; or none, which is 25.
+// Where port i reaches every one, 25 isn't looked for.
+pub fn ports_of(p: Spot, gap: &[u16], ys: &[u16], e: &[u16]) -> Option<usize>
     requires { Small p × (length gap.now ≡ 1024) × (length ys.now ≡ 1024) × (1 < length e.now) × (length e.now ≤ 1024) × Within 1024 e.now }
     ensures { result ≡ ports_for (change_from p gap.now ys.now e.now 1 (inner_count e.now)) (all_reach_from p gap.now ys.now e.now 1 (inner_count e.now)) }
 {
     let last = e.len() - 1;
     let from = change_at(p, gap, ys, e);
     if from == last {
-        return Ports::From(from);
+        return Some(from);
     }
     if !all_reach(p, gap, ys, e) {
-        return Ports::NoReach;
+        return None;
     }
-    Ports::From(from)
+    Some(from)
 }

@@ -1,5 +1,5 @@
 -- What the definitions of the check mean, for those who use them.
-use Rattle.std.specs.Prelude.{◌≡◌, ℕ, ◌*◌, ◌/◌, ◌%◌, ◌≤◌, Bool, true, false, not, ◌&&◌, ◌⊎◌, [], ◌∷◌, map, ℤ, pos, negsuc, ◌==◌, nat_le, refl, Float, if◌then◌else◌}
+use Rattle.std.specs.Prelude.{◌≡◌, ℕ, ◌*◌, ◌/◌, ◌%◌, ◌≤◌, Bool, true, false, not, ◌&&◌, ◌⊎◌, [], ◌∷◌, map, ℤ, pos, negsuc, ◌==◌, nat_le, refl, Float, if◌then◌else◌, Some, None}
 use Rattle.std.proofs.Common.{sym, ◌∙◌, subst, mul-one, mul-div_cancel, div-add-mod', arith, true≢false, inl, inr, ⊎_elim, le-leb, leb-true, eqb-true}
 use Rattle.std.proofs.Math.Nat.{mul-mod_left}
 use Rattle.std.specs.Float.{nan, inf, fin}
@@ -13,7 +13,6 @@ use Rattle.rules.specs.Refusals.{good, told, refuse_if, ◌>>◌}
 use Rattle.rules.specs.Moves.{is_tool}
 use Rattle.tool.specs.declared.Tool.{Tool}
 use Rattle.tool.specs.declared.Numbers.{Numbers}
-use Rattle.tool.specs.declared.Checked.TheVariants.{Good, Bad}
 use Rattle.tool.specs.Checking.{whole_number, whole_tool, tool_of, numbers_of, checked_of, told_tool, InRange}
 
 -- the quotient of a float of the value k, and its remainder
@@ -62,21 +61,21 @@ pub at_most : (most : ℕ) (x : Float) → whole_number most x ≤ most
 at_most most x = ⊎_elim (λ e. omega arith) (λ v. v.1) (number_is most x)
 
 -- what the check tells: the tool of the rules is one, and these are its numbers; or it is none
-pub good-tool : (t : Tool) (n : Numbers) → checked_of t ≡ Good n → (is_tool (whole_tool t) ≡ true) × (tool_of n ≡ whole_tool t) × InRange n
+pub good-tool : (t : Tool) (n : Numbers) → checked_of t ≡ Some n → (is_tool (whole_tool t) ≡ true) × (tool_of n ≡ whole_tool t) × InRange n
 unfolding checked_of
 good-tool t n h = go (is_tool (whole_tool t)) refl h
   where
-    go : (b : Bool) → is_tool (whole_tool t) ≡ b → (if b then Good (numbers_of (whole_tool t)) else Bad) ≡ Good n → (is_tool (whole_tool t) ≡ true) × (tool_of n ≡ whole_tool t) × InRange n
+    go : (b : Bool) → is_tool (whole_tool t) ≡ b → (if b then Some (numbers_of (whole_tool t)) else None) ≡ Some n → (is_tool (whole_tool t) ≡ true) × (tool_of n ≡ whole_tool t) × InRange n
     go true i e =
         let same : numbers_of (whole_tool t) ≡ n = cc in
         (i, rw (sym same), subst InRange same (record { some = (in_range 1 80 (whole_number 80 t.pitch) (both (between 1 80 (whole_number 80 t.pitch)) (between 1 40 (whole_number 40 t.depth) && between 1 80 (whole_number 80 t.clearance)) i).0).0; pitch = at_most 80 t.pitch; depth = at_most 40 t.depth; clearance = at_most 80 t.clearance }))
     go false i e = absurd (let z : ◌≡◌ {A = ℕ} 0 1 = cc in omega arith)
 
-pub bad_tool : (t : Tool) → checked_of t ≡ Bad → is_tool (whole_tool t) ≡ false
+pub bad_tool : (t : Tool) → checked_of t ≡ None → is_tool (whole_tool t) ≡ false
 unfolding checked_of
 bad_tool t h = go (is_tool (whole_tool t)) h
   where
-    go : (b : Bool) → (if b then Good (numbers_of (whole_tool t)) else Bad) ≡ Bad → b ≡ false
+    go : (b : Bool) → (if b then Some (numbers_of (whole_tool t)) else None) ≡ None → b ≡ false
     go true e = absurd (let z : ◌≡◌ {A = ℕ} 0 1 = cc in omega arith)
     go false e = refl
 
@@ -85,6 +84,6 @@ pub tool-told : (t : Tool) → told_tool (checked_of t) ≡ told (refuse_if (not
 unfolding checked_of
 tool-told t = go (is_tool (whole_tool t))
   where
-    go : (b : Bool) → told_tool (if b then Good (numbers_of (whole_tool t)) else Bad) ≡ told (refuse_if (not b) BadTool 0 >> good (whole_tool t))
+    go : (b : Bool) → told_tool (if b then Some (numbers_of (whole_tool t)) else None) ≡ told (refuse_if (not b) BadTool 0 >> good (whole_tool t))
     go true = refl
     go false = refl

@@ -38,9 +38,7 @@ pub fn word_at(s: &[u8], at: usize) -> u16
     requires { at + 1 < length s.now }
     ensures { result ≡ word_at s.now at }
 {
-    let high = byte(s[at]);
-    let low = byte(s[at + 1]);
-    high * 256 + low
+    u16::from_be_bytes([s[at], s[at + 1]])
 }
 
 // Writes a number's two bytes at `at`.
@@ -48,8 +46,7 @@ pub fn put_word(out: &mut [u8], at: usize, v: u16)
     requires { at + 1 < length out.old }
     ensures { out.new ≡ with_word out.old at v }
 {
-    out[at] = (v / 256) as u8;
-    out[at + 1] = (v % 256) as u8;
+    out[at..at + 2].copy_from_slice(&v.to_be_bytes());
 }
 
 // How many low bits are a point's number.
@@ -60,6 +57,7 @@ pub const POINT_LIMIT: u16 = 16384;
 const POINT_MASK: u16 = POINT_LIMIT - 1;
 
 // What the two bits above them say; 3 is both guide and feeder.
+// They are numbers of the file format, as a line's last field is; and the functions on Entry and Kind are no impl of From, which Rust allows only in rules, where the types are.
 const PLAIN: u16 = 0;
 
 const FEEDER: u16 = 1;
@@ -77,7 +75,7 @@ fn low_bits(e: u16) -> u16
 pub fn point_of(e: u16) -> usize
     ensures { result ≡ (entry_of e).point }
 {
-    low_bits(e) as usize
+    usize::from(low_bits(e))
 }
 
 // An entry, read from its 16-bit number.
@@ -85,36 +83,20 @@ pub fn split(e: u16) -> Reading
     ensures { result ≡ read_entry e }
 {
     let point = low_bits(e);
-    let top = e >> POINT_BITS;
-    if top == PLAIN {
-        return Reading::Given(Entry {
-            point,
-            kind: Kind::Plain,
-        });
-    }
-    if top == FEEDER {
-        return Reading::Given(Entry {
-            point,
-            kind: Kind::Feeder,
-        });
-    }
-    if top == GUIDE {
-        return Reading::Given(Entry {
-            point,
-            kind: Kind::Guide,
-        });
-    }
-    Reading::Both(point)
+    let kind = match e >> POINT_BITS {
+        PLAIN => Kind::Plain,
+        FEEDER => Kind::Feeder,
+        GUIDE => Kind::Guide,
+        _ => return Reading::Both(point),
+    };
+    Reading::Given(Entry { point, kind })
 }
 
 // Whether an entry is marked both guide and feeder.
 pub fn is_both(e: u16) -> bool
     ensures { result ≡ is_both (read_entry e) }
 {
-    match split(e) {
-        Reading::Given(_) => false,
-        Reading::Both(_) => true,
-    }
+    matches!(split(e), Reading::Both(_))
 }
 
 // The entry of a line that is stored. None is marked both; what is read then doesn't matter.
@@ -146,8 +128,7 @@ pub fn join(x: Entry) -> u16
     requires { x.point < point_limit }
     ensures { result ≡ word_of x }
 {
-    let kind = x.kind;
-    let top = top_bits(kind);
+    let top = top_bits(x.kind);
     (top << POINT_BITS) | x.point
 }
 
@@ -155,11 +136,7 @@ pub fn join(x: Entry) -> u16
 pub fn is_cut(k: Kind) -> bool
     ensures { result ≡ is_cut k }
 {
-    match k {
-        Kind::Guide => false,
-        Kind::Plain => true,
-        Kind::Feeder => true,
-    }
+    k != Kind::Guide
 }
 
 // A line's last field in a drawing file.
@@ -184,11 +161,9 @@ pub fn last_field(k: Kind) -> u16
 pub fn kind_from(field: u16) -> Kind
     ensures { result ≡ kind_from field }
 {
-    if field == GUIDE_FIELD {
-        return Kind::Guide;
+    match field {
+        GUIDE_FIELD => Kind::Guide,
+        FEEDER_FIELD => Kind::Feeder,
+        _ => Kind::Plain,
     }
-    if field == FEEDER_FIELD {
-        return Kind::Feeder;
-    }
-    Kind::Plain
 }

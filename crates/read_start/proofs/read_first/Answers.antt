@@ -1,19 +1,13 @@
 -- `read_start::read_first` meets its contract: each return is a case of the record and its test.
-use Rattle.std.specs.Prelude.{ℕ, List, ◌≡◌}
-use Rattle.std.proofs.Common.{subst}
-use Rattle.read_records.specs.Reading.{Got}
-use Rattle.read_start.proofs.Starts.{first_bad, first_count, first_in}
+use Rattle.rules.specs.Results.{handed_on}
+use Rattle.read_start.proofs.Starts.{first_bad, first_count, first_in, counted}
 use Rattle.read_start.proofs.read_first.Goals as goal
 
--- it has no entry
-none : {f : List ℕ} {at c from next : ℕ} → Got f at c from next → c ≡ 0 → Got f at 0 from next
-none {f = f} {at = at} {from = from} {next = next} g h = subst (λ (n : ℕ). Got f at n from next) h g
+pub returns-in_err-entries : goal.returns-in_err-entries
+returns-in_err-entries c = rw (handed_on c.from_residual.result _ c.from_residual.ensures.1) (first_bad c.args.here.now.file.now c.args.here.now.at _ _ c.in_err-entries.ensures)
 
-pub returns-then-count-ne0 : goal.returns-then-count-ne0
-returns-then-count-ne0 c = first_count c.in-Given.ensures c.if-count-ne0.true
+pub returns-then-entries-ne0 : goal.returns-then-entries-ne0
+returns-then-entries-ne0 c = rw c.at.ensures (first_count c.in_ok-entries.ensures c.if-entries-ne0.true)
 
-pub returns-in-Refused : goal.returns-in-Refused
-returns-in-Refused c = first_bad c.args.f.now c.args.at _ _ c.in-Refused.ensures
-
-pub returns-else-count-ne0 : goal.returns-else-count-ne0
-returns-else-count-ne0 c = first_in (none c.in-Given.ensures c.if-count-ne0.false) c.read_second.result c.read_second.ensures
+pub returns : goal.returns
+returns c = first_in (counted c.in_ok-entries.ensures c.if-entries-ne0.false) c.read_second.result (rw (c.moved_to.ensures.same_file, c.moved_to.ensures.place) at c.read_second.ensures)

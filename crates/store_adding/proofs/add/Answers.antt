@@ -1,54 +1,55 @@
 -- `store_adding::add` meets its contract: each stage asks what a call that passed has, and each return is one of the three outcomes.
 use Rattle.std.proofs.Common.{sym, ◌∙◌, arith}
-use Rattle.rules.specs.Results.{accepted}
+use Rattle.rules.specs.Results.{accepted, handed_on}
 use Rattle.store_tables.specs.Tables.{arrays_in, region-long, next_r, owner_r}
 use Rattle.store_adding.specs.Passing.{passing, runs, small, storable, refused-early, refused-late, accepts}
 use Rattle.store_adding.proofs.add.Goals as goal
 
-pub judge-verdict-requires : goal.judge-verdict-requires
-judge-verdict-requires c =
+pub judge-requires : goal.judge-requires
+judge-requires c =
     let h = c.requires.0.holds in
     (region-long owner_r c.args.table.now (omega (arith, c.requires.1)), region-long next_r c.args.table.now (omega (arith, c.requires.1)), omega (arith, h.stores.k, h.standing.ranged.room, h.standing.ranged.high))
 
-pub returns-in_default : goal.returns-in_default
+pub returns-in_err-judge : goal.returns-in_err-judge
 unfolding arrays_in
-returns-in_default c =
-    refused-early (arrays_in c.args.table.now) c.args.c c.args.e.now _ _ _ c.judge-verdict.ensures c.in_default.is
+returns-in_err-judge c =
+    rw (handed_on c.from_residual.result _ c.from_residual.ensures.1)
+    (refused-early (arrays_in c.args.table.now) c.args.c c.args.e.now _ (sym c.judge.ensures ∙ c.in_err-judge.was))
 
 pub spot_over-p-requires : goal.spot_over-p-requires
 unfolding arrays_in
 spot_over-p-requires c =
-    let g = (accepted _ (sym c.judge-verdict.ensures ∙ c.in-Accepted.is)).is in
+    let g = (accepted _ (sym c.judge.ensures ∙ c.in_ok-judge.was)).is in
     (runs (passing c.requires.0 c.args.e.now g), c.requires.1)
 
 pub ports_over-ports-requires : goal.ports_over-ports-requires
 unfolding arrays_in
 ports_over-ports-requires c =
-    let g = (accepted _ (sym c.judge-verdict.ensures ∙ c.in-Accepted.is)).is in
+    let g = (accepted _ (sym c.judge.ensures ∙ c.in_ok-judge.was)).is in
     let p = passing c.requires.0 c.args.e.now g in
     (runs p, small p _ c.spot_over-p.ensures, c.requires.1)
 
-pub returns-in_default-ports : goal.returns-in_default-ports
+pub returns-in_default : goal.returns-in_default
 unfolding arrays_in
-returns-in_default-ports c =
-    let g = (accepted _ (sym c.judge-verdict.ensures ∙ c.in-Accepted.is)).is in
-    refused-late (arrays_in c.args.table.now) c.args.c c.args.e.now _ g c.spot_over-p.ensures _ c.ports_over-ports.ensures c.in_default-ports.is
+returns-in_default c =
+    let g = (accepted _ (sym c.judge.ensures ∙ c.in_ok-judge.was)).is in
+    rw c.at.ensures (refused-late (arrays_in c.args.table.now) c.args.c c.args.e.now _ g c.spot_over-p.ensures _ c.ports_over-ports.ensures c.in_default.is)
 
 pub store-requires : goal.store-requires
 unfolding arrays_in
 store-requires c =
-    let g = (accepted _ (sym c.judge-verdict.ensures ∙ c.in-Accepted.is)).is in
+    let g = (accepted _ (sym c.judge.ensures ∙ c.in_ok-judge.was)).is in
     (storable (passing c.requires.0 c.args.e.now g) _ c.spot_over-p.ensures, c.requires.1)
 
 pub counts_with-requires : goal.counts_with-requires
 unfolding arrays_in
 counts_with-requires c =
-    let g = (accepted _ (sym c.judge-verdict.ensures ∙ c.in-Accepted.is)).is in
+    let g = (accepted _ (sym c.judge.ensures ∙ c.in_ok-judge.was)).is in
     let p = passing c.requires.0 c.args.e.now g in
     (p.room, p.border, omega (arith, p.lines), p.fits)
 
 pub returns : goal.returns
 unfolding arrays_in
 returns c =
-    let g = (accepted _ (sym c.judge-verdict.ensures ∙ c.in-Accepted.is)).is in
-    accepts (arrays_in c.args.table.now) c.args.c c.args.e.now _ g c.spot_over-p.ensures _ c.ports_over-ports.ensures _ c.in-From.is _ c.store.ensures _ c.counts_with.ensures
+    let g = (accepted _ (sym c.judge.ensures ∙ c.in_ok-judge.was)).is in
+    accepts (arrays_in c.args.table.now) c.args.c c.args.e.now _ g c.spot_over-p.ensures _ c.ports_over-ports.ensures _ c.in-Some.is _ c.store.ensures _ c.counts_with.ensures

@@ -1,6 +1,5 @@
 -- `first_cut` meets its contract: no line before e is cut and ends at p.
-use Rattle.std.proofs.Common.{ℕ, List, ◌≡◌, sym, ◌∙◌, ◌+◌, ◌<◌, arith, get_or}
-use borrow.Author.Count.{below_more}
+use Rattle.std.proofs.Common.{ℕ, List, ◌≡◌, sym, ◌∙◌, ◌+◌, ◌<◌, arith, get_or, below_more}
 use Rattle.rules.specs.Readings.{entry_of}
 use Rattle.store_tables.specs.Tables.{arrays_in, arrays-read, words_r, later_r}
 use Rattle.store_looking.specs.Cuts.{cut_to, cut_at}
@@ -15,15 +14,10 @@ pub returns-then-is_cut_to : goal.returns-then-is_cut_to
 returns-then-is_cut_to c =
     let b = c.loop-e in
     let low : b.e < 3072 = omega (arith, c.requires, c.loop-e-test.true) in
-    record { within = b.invariant.0; before = b.invariant.1; found = λ h. sym (c.is_cut_to.ensures ∙ at_hand c.args.table.now c.args.p b.e low) ∙ c.if-is_cut_to.true }
+    record { within = omega (arith, c.loop-e-test.true); before = b.invariant; found = sym (c.is_cut_to.ensures ∙ at_hand c.args.table.now c.args.p b.e low) ∙ c.if-is_cut_to.true }
 
 pub loop-e-preserved : goal.loop-e-preserved
 loop-e-preserved c =
     let b = c.loop-e in
     let low : b.e < 3072 = omega (arith, c.requires, c.loop-e-test.true) in
-    (omega (arith, c.loop-e-test.true), below_more _ _ b.invariant.1 (sym (c.is_cut_to.ensures ∙ at_hand c.args.table.now c.args.p b.e low) ∙ c.if-is_cut_to.false))
-
-pub returns : goal.returns
-returns c =
-    let b = c.loop-e in
-    record { within = b.invariant.0; before = b.invariant.1; found = λ h. absurd (omega (arith, c.loop-e-test.false)) }
+    below_more _ _ b.invariant (sym (c.is_cut_to.ensures ∙ at_hand c.args.table.now c.args.p b.e low) ∙ c.if-is_cut_to.false)

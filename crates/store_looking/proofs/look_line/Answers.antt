@@ -6,7 +6,7 @@ use Rattle.store_looking.proofs.look_line.Goals as goal
 pub bend_of-at-requires : goal.bend_of-at-requires
 bend_of-at-requires c =
     let h = c.requires.0.holds in
-    rw (c.broad-to.ensures, c.broad-from.ensures)
+    rw (c.from-to.ensures, c.from-from.ensures)
     (line-bends h c.requires.1 c.args.e c.if-c-e.false c.line_in-l.result c.line_in-l.ensures, table_long _ h.sized)
 
 pub returns-in_default : goal.returns-in_default
@@ -15,5 +15,5 @@ returns-in_default c =
 
 pub returns : goal.returns
 returns c =
-    λ q h. rw (c.bend_of-at.ensures, c.broad-to.ensures, c.broad-from.ensures)
+    λ q h. rw (c.bend_of-at.ensures, c.from-to.ensures, c.from-from.ensures)
     (line_seen_lem h c.requires.1 c.args.e c.if-c-e.false c.line_in-l.result c.line_in-l.ensures c.in-OneBend.is)

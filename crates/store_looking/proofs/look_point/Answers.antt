@@ -6,7 +6,7 @@ use Rattle.store_looking.specs.Places.{point_seen_lem, no_point_lem}
 use Rattle.store_looking.proofs.look_point.Goals as goal
 
 pub returns-then-not-is_point : goal.returns-then-not-is_point
-returns-then-not-is_point c = λ q h. no_point_lem h c.args.p (sym c.is_point.ensures ∙ c.if-not-is_point.true)
+returns-then-not-is_point c = λ q h. rw c.at.ensures (no_point_lem h c.args.p (sym c.is_point.ensures ∙ c.if-not-is_point.true))
 
 pub overflow_sub-i : goal.overflow_sub-i
 overflow_sub-i c =

@@ -1,7 +1,6 @@
 -- Where no port changes, all reach.
-use Rattle.std.proofs.Common.{◌+◌, ◌≡◌, true, sym, ap, ◌∙◌, arith}
+use Rattle.std.proofs.Common.{Some, ◌+◌, ◌≡◌, true, sym, ap, ◌∙◌, arith}
 use Rattle.store_links.specs.Placing.{all_reach_from, inner_count}
-use Rattle.store_placing.specs.declared.Ports.TheVariants.{From}
 use Rattle.store_placing.specs.Ports.{no_change}
 use Rattle.store_placing.proofs.ports_of.Goals as goal
 
@@ -12,4 +11,4 @@ returns-then-from-last c =
     let last : f.result ≡ 1 + inner_count a.e.now = omega (arith, c.if-from-last.true, c.requires.3) in
     let all : all_reach_from a.p a.gap.now a.ys.now a.e.now 1 (inner_count a.e.now) ≡ true =
     no_change a.p a.gap.now a.ys.now a.e.now 1 (inner_count a.e.now) (sym f.ensures ∙ last) in
-    rw all (ap From f.ensures)
+    rw all (ap Some f.ensures)
