@@ -7,8 +7,7 @@ use native.Mathlib.Omega.{arith}
 use lib.ListN.{length, get_or, take, drop, set, length-set, length-take, take-append-drop}
 use lib.Seq.{take-suc-set, drop-set-lt, drop-drop, lt-length-set}
 use Rattle.rules.specs.declared.Style.{Style}
-use Rattle.rules.specs.declared.Answer.{Answer}
-use Rattle.rules.specs.Refusals.{answer}
+use Rattle.rules.specs.Refusals.{Answer, answer}
 use Rattle.rules.specs.Points.{Drawing as Plan, opening}
 use Rattle.rules.specs.Adding.{add}
 use Rattle.rules.specs.Calls.{left, after, answers, drawn, said}
@@ -49,7 +48,7 @@ going_first {τ} {n} b =
     }
 
 -- An answer's two words: the words before them and those behind them.
-take-answer : (out : List ℕ) (i : ℕ) (a : Answer) → i + 1 < length out → take (i + 2) (with_answer out i a) ≡ take i out ++ answer_words a
+take-answer : (out : List ℕ) (i : ℕ) (a : Answer (Unit {0})) → i + 1 < length out → take (i + 2) (with_answer out i a) ≡ take i out ++ answer_words a
 take-answer out i a h =
     let two : i + 2 ≡ suc (suc i) = omega arith in
     rw (two, add-one i)
@@ -57,7 +56,7 @@ take-answer out i a h =
     ap (λ (t : List ℕ). t ++ (place_in a ∷ [])) (take-suc-set out i (number_in a) (omega arith)) ∙
     append_assoc (take i out) (number_in a ∷ []) (place_in a ∷ []))
 
-drop-answer : (out : List ℕ) (i : ℕ) (a : Answer) → drop (i + 2) (with_answer out i a) ≡ drop (i + 2) out
+drop-answer : (out : List ℕ) (i : ℕ) (a : Answer (Unit {0})) → drop (i + 2) (with_answer out i a) ≡ drop (i + 2) out
 drop-answer out i a = drop-set-lt (i + 2) (set out i (number_in a)) (i + 1) (place_in a) (omega arith) ∙ drop-set-lt (i + 2) out i (number_in a) (omega arith)
 
 module _ {τ : Style} {n : ℕ} {ws before : List ℕ} {a : Arrays} {c : Counts} {at told : ℕ} {out : List ℕ} (g : Going τ n ws before a c at told out) where
@@ -112,7 +111,7 @@ module _ {τ : Style} {n : ℕ} {ws before : List ℕ} {a : Arrays} {c : Counts}
           buffer =
               ap (λ (t : List ℕ). take (told + 2) t ++ others) m.buffer ∙
               ap (λ (t : List ℕ). t ++ others) (take-answer out told told-now (omega (arith, told-room, g.long))) ∙
-              ap (λ (t : Answer). (take told out ++ answer_words t) ++ others) k.answers ∙
+              ap (λ (t : Answer (Unit {0})). (take told out ++ answer_words t) ++ others) k.answers ∙
               append_assoc (take told out) (answer_words (answer (add g.plan es))) others ∙
               ap (λ (cs : List (List ℕ)). take told out ++ words_of (answers g.plan cs)) (sym rest) ∙
               g.buffer;

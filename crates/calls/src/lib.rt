@@ -1,16 +1,15 @@
 // A whole list of calls in one function: demand 3 of document 01 and wish 2 of document 02 as one claim about the program.
 #![tactic(auto)]
 
-ghost use Rattle.std.specs.Prelude.{◌≡◌};
+ghost use Rattle.std.specs.Prelude.{◌≡◌, OnErr};
 ghost use Rattle.store_tables.specs.Tables.{arrays_in};
-ghost use Rattle.store_links.specs.Opening.{no_counts};
 ghost use Rattle.store_points.specs.Zeros.{zeros};
 ghost use Rattle.calls.specs.Turns.{Callable, Made, Begun, Ended, Runs};
-ghost use Rattle.calls.specs.Ran.{done_in, Ran};
+ghost use Rattle.calls.specs.Ran.{drawing_in, Ran};
 
-use drawing::{Done, Drawing};
+use drawing::Drawing;
 use rules::{Answer, FEWEST_POINTS, MOST_POINTS, Refusal, Style};
-use store_links::{Added, Counts};
+use store_links::Counts;
 use store_tables::{END, Table};
 
 // One call on the lent table, with its answer at `at` of the buffer; gives the numbers after it.
@@ -18,11 +17,16 @@ fn one_call(table: &mut Table, c: Counts, e: &[u16], answers: &mut [u16], at: us
     requires { Callable (arrays_in table.old) c e.now answers.old at }
     ensures { Made (arrays_in table.old) c e.now answers.old at (arrays_in table.new) result answers.new }
 {
-    let added = store_adding::add(table, c, e);
-    let answer = added.answer;
-    let numbers = added.counts;
-    calls_words::put_answer(answers, at, answer);
-    numbers
+    match store_adding::add(table, c, e) {
+        Ok(counts) => {
+            calls_words::put_answer(answers, at, Ok(()));
+            counts
+        }
+        Err(refused) => {
+            calls_words::put_answer(answers, at, Err(refused));
+            c
+        }
+    }
 }
 
 // All calls on the lent table, from the drawing as opened, with their answers in the buffer; gives the numbers after them.
@@ -59,17 +63,7 @@ fn draw_calls(
     all_calls(table, opened, calls, answers)
 }
 
-// A refusal: no drawing, every number 0.
-fn refuse(why: Refusal) -> Added
-    ensures { (result.answer ≡ Answer.Refused why 0) × (result.counts ≡ no_counts) }
-{
-    Added {
-        answer: Answer::Refused(why, 0),
-        counts: store_links::no_counts(),
-    }
-}
-
-// Makes the calls that the words hold on a drawing of this style opened for n points; each answer takes two words of the buffer.
+// Makes the calls that the words hold on a drawing of this style opened for n points, and gives its numbers; each answer takes two words of the buffer.
 // For `panel_c`, which has no drawing by value: it asks for a table of zeros, and leaves it so where it refuses.
 pub fn run_in(
     table: &mut Table,
@@ -77,35 +71,30 @@ pub fn run_in(
     n: usize,
     calls: &[u16],
     answers: &mut [u16],
-) -> Added
+) -> Answer<Counts>
     requires { table.old ≡ zeros }
-    ensures { Ran style n calls.now answers.old answers.new (done_in result table.new) }
+    ensures ran { Ran style n calls.now answers.old answers.new (drawing_in result table.new) }
+    ensures kept { OnErr result (table.new ≡ table.old) }
 {
     if n < FEWEST_POINTS {
-        return refuse(Refusal::OutOfRange);
+        return Err(Refusal::OutOfRange.at(0));
     }
     if MOST_POINTS < n {
-        return refuse(Refusal::OutOfRange);
+        return Err(Refusal::OutOfRange.at(0));
     }
     let needed = 2 * calls_words::count_calls(calls);
     if answers.len() < needed {
-        return refuse(Refusal::OutputShort);
+        return Err(Refusal::OutputShort.at(0));
     }
     let counts = draw_calls(table, style, n, calls, answers);
-    Added {
-        answer: Answer::Accepted,
-        counts,
-    }
+    Ok(counts)
 }
 
 // The same, with the drawing by value.
-pub fn run(style: Style, n: usize, calls: &[u16], answers: &mut [u16]) -> Done
+pub fn run(style: Style, n: usize, calls: &[u16], answers: &mut [u16]) -> Answer<Drawing>
     ensures { Ran style n calls.now answers.old answers.new result }
 {
     let mut table = [0u16; END];
-    let made = run_in(&mut table, style, n, calls, answers);
-    let answer = made.answer;
-    let counts = made.counts;
-    let drawing = Drawing { counts, table };
-    Done { answer, drawing }
+    let counts = run_in(&mut table, style, n, calls, answers)?;
+    Ok(Drawing { counts, table })
 }

@@ -13,7 +13,8 @@ use Rattle.rules.specs.Styles as Rules
 use Rattle.rules.specs.Points.{Drawing as Plan, place_of, line_at}
 use Rattle.rules.specs.Ports.{bend_place}
 use Rattle.rules.specs.Lookups.{look_point, look_line}
-use Rattle.promise.proofs.Bounds.{Standing, width_most, place_most, bend_most}
+use Rattle.promise.specs.Standing.{Standing}
+use Rattle.promise.proofs.Bounds.{width_most, place_most, bend_most}
 use Rattle.store_links.specs.declared.Counts.{Counts}
 use Rattle.store_links.specs.Arrays.{Arrays}
 use Rattle.store_laws.specs.Adding.{Holds}

@@ -5,7 +5,7 @@ use Rattle.rules.specs.declared.Kind.TheVariants.{Guide, Plain, Feeder}
 use Rattle.rules.specs.declared.Style.TheVariants.{OneBend}
 use Rattle.rules.specs.declared.Place.{Place}
 use Rattle.rules.specs.Moves.{Tool as WholeTool, Move as WholeMove, lift, line_moves, without_dwelling, repeated}
-use Rattle.rules.proofs.Dwelling.{moves_each}
+use Rattle.rules.specs.MoveCounts.{moves_each}
 use Rattle.tool.specs.declared.Numbers.{Numbers}
 use Rattle.tool.specs.Checking.{tool_of}
 use Rattle.cutter_lines.specs.declared.Groove.{Groove}

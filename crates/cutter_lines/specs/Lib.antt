@@ -1,3 +1,4 @@
 pub mod Grooves
 pub mod Sizes
 pub mod Laws
+pub mod Steps

@@ -7,13 +7,66 @@ ghost use Rattle.rules.specs.Meeting.{same_place};
 ghost use Rattle.rules.specs.Moves.{cut};
 ghost use Rattle.tool.specs.Checking.{InRange};
 ghost use Rattle.tool.specs.Showing.{over_eight, in_floats, IsMove};
-ghost use Rattle.cutter_lines.specs.Grooves.{cuts, each, total, past_cut, step_of, five_move, groove_move, OnGrid, GrooveOnGrid};
+ghost use Rattle.cutter_lines.specs.Grooves.{cuts, each, total, step_of, five_move, groove_move, OnGrid, GrooveOnGrid};
+ghost use Rattle.cutter_lines.specs.Steps.{step_number};
 
 use rules::{Kind, Place};
 use tool::{Move, Numbers};
 
+// How the grid becomes millimetres: the drawing's scale, and the tool's numbers.
+#[derive(Clone, Copy, Debug, PartialEq, Eq)]
+pub struct Setting {
+    pub scale: usize,
+    pub tool: Numbers,
+    ghost scaled: { (1 ≤ scale) × (scale ≤ 8) },
+    ghost in_range: { InRange tool },
+}
+
+impl Setting {
+    // A grid coordinate in millimetres: the whole product, over 8.
+    fn coordinate(self, c: u16) -> f32
+        requires { c ≤ 5111 }
+        ensures { result ≡ over_eight (self.scale * c * self.tool.pitch) }
+    {
+        tool::over_eight(self.scale as u32 * u32::from(c) * self.tool.pitch)
+    }
+
+    // The cut to a place on the grid.
+    fn cut_to(self, p: Place) -> Move
+        requires { OnGrid p }
+        ensures { result ≡ in_floats (cut (self.scale * p.x * self.tool.pitch) (self.scale * p.y * self.tool.pitch)) }
+    {
+        Move::Cut(self.coordinate(p.x), self.coordinate(p.y))
+    }
+}
+
+// One of document 01's five moves of a line.
+#[derive(Clone, Copy, Debug, PartialEq, Eq)]
+enum Step {
+    Travel,
+    Plunge,
+    CutToBend,
+    CutToEarlier,
+    Lift,
+}
+
+// Which of the five is move `which`, where the cut to the bend is left out, or the cut to the earlier point.
+fn step_at(which: usize, bend_out: bool, end_out: bool) -> Step
+    requires { which < 3 + (if bend_out then 0 else 1) + (if end_out then 0 else 1) }
+    ensures { step_number result ≡ step_of bend_out end_out which }
+{
+    match (which, bend_out, end_out) {
+        (0, _, _) => Step::Travel,
+        (1, _, _) => Step::Plunge,
+        (2, false, _) => Step::CutToBend,
+        (2, true, false) | (3, false, false) => Step::CutToEarlier,
+        _ => Step::Lift,
+    }
+}
+
 // A line as it is cut: its kind, and where its later point, its bend and its earlier point lie. A straight line is one whose bend lies at its earlier point.
-#[derive(Clone, Copy)]
+// That its places lie on the grid stands in the contracts, and not here: the definitions speak of the grooves of any drawing.
+#[derive(Clone, Copy, Debug, PartialEq, Eq)]
 pub struct Groove {
     pub kind: Kind,
     pub later: Place,
@@ -21,46 +74,57 @@ pub struct Groove {
     pub earlier: Place,
 }
 
-// A grid coordinate in millimetres: the whole product, over 8.
-fn coordinate(s: usize, c: u16, pitch: u32) -> f32
-    requires { (s ≤ 8) × (c ≤ 5111) × (pitch ≤ 80) }
-    ensures { result ≡ over_eight (s * c * pitch) }
-{
-    tool::over_eight((s as u32) * (c as u32) * pitch)
-}
-
-// The cut to a place on the grid.
-fn cut_to(s: usize, p: Place, pitch: u32) -> Move
-    requires { (s ≤ 8) × OnGrid p × (pitch ≤ 80) }
-    ensures { result ≡ in_floats (cut (s * p.x * pitch) (s * p.y * pitch)) }
-{
-    Move::Cut(coordinate(s, p.x, pitch), coordinate(s, p.y, pitch))
-}
-
-// Move `which`, from 0, of document 01's five: from the later point over the bend to the earlier point.
-fn five_move(which: usize, s: usize, g: Groove, t: Numbers) -> Move
-    requires { (which < 5) × (s ≤ 8) × GrooveOnGrid g × InRange t }
-    ensures { IsMove result (five_move which s t g) }
-{
-    let later = g.later;
-    match which {
-        0 => Move::Travel(
-            coordinate(s, later.x, t.pitch),
-            coordinate(s, later.y, t.pitch),
-        ),
-        1 => Move::Plunge(-tool::over_eight(t.depth)),
-        2 => cut_to(s, g.bend, t.pitch),
-        3 => cut_to(s, g.earlier, t.pitch),
-        _ => Move::Lift(tool::over_eight(t.clearance)),
+impl Groove {
+    // The move of a step: from the later point over the bend to the earlier point.
+    fn step_move(self, step: Step, by: Setting) -> Move
+        requires { GrooveOnGrid self }
+        ensures { result ≡ in_floats (five_move (step_number step) by.scale by.tool self) }
+    {
+        let later = self.later;
+        match step {
+            Step::Travel => Move::Travel(by.coordinate(later.x), by.coordinate(later.y)),
+            Step::Plunge => Move::Plunge(-tool::over_eight(by.tool.depth)),
+            Step::CutToBend => by.cut_to(self.bend),
+            Step::CutToEarlier => by.cut_to(self.earlier),
+            Step::Lift => Move::Lift(tool::over_eight(by.tool.clearance)),
+        }
     }
-}
 
-// Two places are one.
-#[tactic(auto, unfolding(rules::specs::Meeting::same_place))]
-fn same_place(a: Place, b: Place) -> bool
-    ensures { result ≡ same_place a b }
-{
-    a.x == b.x && a.y == b.y
+    // How many moves it gives each time: travel, plunge, the cuts to the bend and to the earlier point, lift. No cut leads to where the cutter is.
+    #[tactic(auto, using(crate::proofs::Made::one_cut), unfolding(rules::specs::Meeting::same_place))]
+    fn moves_each(self) -> usize
+        ensures value { result ≡ each self }
+        ensures some { (3 ≤ result) × (result ≤ 5) }
+    {
+        3 + (self.bend != self.later) as usize + (self.earlier != self.bend) as usize
+    }
+
+    // Which of the five is move `which` of those.
+    #[tactic(auto, unfolding(rules::specs::Meeting::same_place))]
+    fn step(self, which: usize) -> Step
+        requires { which < each self }
+        ensures { step_number result ≡ step_of (same_place self.bend self.later) (same_place self.earlier self.bend) which }
+    {
+        step_at(which, self.bend == self.later, self.earlier == self.bend)
+    }
+
+    // How many moves it gives in all.
+    pub fn move_total(self) -> usize
+        ensures value { result ≡ total self }
+        ensures some { result ≤ 10 }
+    {
+        cuts_of(self.kind) * self.moves_each()
+    }
+
+    // Move `number`, from 0, of all that it gives.
+    pub fn move_at(self, number: usize, by: Setting) -> Move
+        requires there { number < total self }
+        requires on_grid { GrooveOnGrid self }
+        ensures { IsMove result (groove_move number by.scale by.tool self) }
+    {
+        let which = number % self.moves_each();
+        self.step_move(self.step(which), by)
+    }
 }
 
 // How often a line is cut: a guide never, a plain line once, a feeder twice.
@@ -73,62 +137,4 @@ fn cuts_of(kind: Kind) -> usize
         Kind::Plain => 1,
         Kind::Feeder => 2,
     }
-}
-
-// How many cuts lead from one place to another: none where they are one.
-fn cuts_to(to: Place, from: Place) -> usize
-    ensures value { result ≡ (if same_place to from then 0 else 1) }
-    ensures some { result ≤ 1 }
-{
-    if same_place(to, from) {
-        return 0;
-    }
-    1
-}
-
-// How many moves it gives each time: travel, plunge, the cuts to the bend and to the earlier point, lift.
-fn moves_each(g: Groove) -> usize
-    ensures value { result ≡ each g }
-    ensures some { (3 ≤ result) × (result ≤ 5) }
-{
-    3 + cuts_to(g.bend, g.later) + cuts_to(g.earlier, g.bend)
-}
-
-// The same step, or the next one if it stands at or behind a cut that is left out.
-fn past(step: usize, cut: usize, to: Place, from: Place) -> usize
-    requires { step < 10 }
-    ensures value { result ≡ past_cut (same_place to from) cut step }
-    ensures some { result ≤ step + 1 }
-{
-    if same_place(to, from) && cut <= step {
-        return step + 1;
-    }
-    step
-}
-
-// Which of document 01's five is move `which` of those.
-fn step_of(g: Groove, which: usize) -> usize
-    requires { which < 5 }
-    ensures { result ≡ step_of (same_place g.bend g.later) (same_place g.earlier g.bend) which }
-{
-    let step = past(which, 2, g.bend, g.later);
-    past(step, 3, g.earlier, g.bend)
-}
-
-// How many moves the line gives in all.
-pub fn move_total(g: Groove) -> usize
-    ensures value { result ≡ total g }
-    ensures some { result ≤ 10 }
-{
-    let kind = g.kind;
-    cuts_of(kind) * moves_each(g)
-}
-
-// Move `number`, from 0, of all that it gives.
-pub fn groove_move(number: usize, s: usize, g: Groove, t: Numbers) -> Move
-    requires { (number < total g) × (1 ≤ s) × (s ≤ 8) × GrooveOnGrid g × InRange t }
-    ensures { IsMove result (groove_move number s t g) }
-{
-    let which = number % moves_each(g);
-    five_move(step_of(g, which), s, g, t)
 }

@@ -89,13 +89,6 @@ puts_one i m {v} is k n =
       exact = (rw (← is.0) is.1, tt);
     }
 
--- a move's two numbers, stored one by one
-pub pair-stored : (l p : List Float) (at : ℕ) (m : Move) (z : Float) → p ≡ move_numbers m → set (set l at (get_or p 0 z)) (at + 1) (get_or p 1 z) ≡ sets l at (move_numbers m)
-pair-stored l p at (Travel x y) z e = rw (e, add-one at)
-pair-stored l p at (Plunge y) z e = rw (e, add-one at)
-pair-stored l p at (Cut x y) z e = rw (e, add-one at)
-pair-stored l p at (Lift y) z e = rw (e, add-one at)
-
 -- one move more of some moves
 pub puts_next : (ms : List WholeMove) (j : ℕ) {kinds kinds₁ kinds₂ : List ℕ} {numbers numbers₁ numbers₂ : List Float} {i : ℕ} (m : Move) → j < length ms → Puts kinds numbers i (take j ms) kinds₁ numbers₁ (i + j) →
     IsMove m (get_or ms j (lift 0)) → kinds₂ ≡ set kinds₁ (i + j) (move_kind m) → numbers₂ ≡ sets numbers₁ (2 * (i + j)) (move_numbers m) → Puts kinds numbers i (take (j + 1) ms) kinds₂ numbers₂ (i + (j + 1))

@@ -1,5 +1,5 @@
 -- A LAST FIELD ABOVE 2 IS NEVER READ BACK: in a drawing file that is read, each line's last field is that of its kind, so it is 0 for a guide, 1 for a plain line or 2 for a feeder.
-use Rattle.std.specs.Prelude.{ℕ, zero, suc, pred, ◌+◌, ◌*◌, ◌/◌, ◌%◌, ◌<◌, ◌≤◌, ◌≡◌, refl, List, [], ◌∷◌, ◌++◌, length, get_or, drop}
+use Rattle.std.specs.Prelude.{ℕ, zero, suc, ◌+◌, ◌*◌, ◌/◌, ◌%◌, ◌<◌, ◌≤◌, ◌≡◌, refl, List, [], ◌∷◌, ◌++◌, length, get_or}
 use Rattle.std.proofs.Common.{ap, ap₂, sym, ◌∙◌, append_assoc, arith}
 use Rattle.std.proofs.Math.Seq.{drop-append-add}
 use Rattle.rules.specs.declared.Style.{Style}
@@ -10,24 +10,13 @@ use Rattle.rules.specs.declared.Line.{Line}
 use Rattle.rules.specs.declared.Place.{Place}
 use Rattle.rules.specs.Basics.{head_of}
 use Rattle.rules.specs.Refusals.{good}
-use Rattle.rules.specs.Styles.{line_numbers}
 use Rattle.rules.specs.Points.{Drawing, line_at}
 use Rattle.rules.specs.Ports.{bend_place}
-use Rattle.rules.specs.Records.{bytes_in, head_size, place_size, line_size, written, words_in, drawing_head, line_shape, end_shape}
+use Rattle.rules.specs.Records.{place_size, written, words_in, drawing_head, line_shape, end_shape}
 use Rattle.rules.specs.DrawingFile.{last_field, line_words, write_points, write_lines, drawing_bytes, read_drawing}
+use Rattle.exchange.specs.LastFields.{number_at, field_among, field_place}
 use Rattle.exchange.specs.Built.{Whole}
 use Rattle.exchange.specs.DrawingRead.{drawing-read, sizes, head_words}
-
--- the number that stands at an offset of a file
-abbrev pub number_at : List ℕ → ℕ → ℕ
-number_at bytes at = head_of (words_in 1 (drop at bytes))
-
--- where line i has its last field: among the lines, behind those before it, its mark and its other numbers; and in the drawing file of n points
-abbrev pub field_among : Style → ℕ → ℕ
-field_among τ i = line_size τ * i + bytes_in (pred (line_numbers τ))
-
-abbrev pub field_place : Style → ℕ → ℕ → ℕ
-field_place τ n i = head_size + (place_size * n + field_among τ i)
 
 -- a number written at the start, with anything behind it
 number_first : (v : ℕ) (rest : List ℕ) → head_of (words_in 1 ((v / 256) ∷ (v % 256) ∷ rest)) ≡ v

@@ -13,7 +13,8 @@ use Rattle.rules.specs.Records.{written, read_record, several, read_end, from_st
 use Rattle.rules.proofs.Lengths.{length-bytes}
 use Rattle.rules.proofs.RoundTrip.{record_back}
 use Rattle.rules.specs.DrawingFile.{highest, write_points, drawing_bytes, compare_bytes, judge_drawing, read_drawing}
-use Rattle.promise.proofs.Bounds.{Standing, standing-start, standing-added}
+use Rattle.promise.specs.Standing.{Standing}
+use Rattle.promise.proofs.Bounds.{standing-start, standing-added}
 use Rattle.promise.proofs.Within.{counted}
 use Rattle.exchange.specs.Built.{Built, begun, added, Whole}
 use Rattle.rules.specs.Bools.{both, in_range, range_in}

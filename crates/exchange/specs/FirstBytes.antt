@@ -14,7 +14,7 @@ use Rattle.rules.specs.Styles.{line_numbers}
 use Rattle.rules.specs.Points.{Drawing}
 use Rattle.rules.specs.Records.{plain, Cursor, Found, Several, skip, words_in, words_at, read_record, several, read_end, from_start, point_place, line_shape, end_mark, bytes_in, head_size, place_size}
 use Rattle.rules.specs.OrderFile.{write_order}
-use Rattle.rules.proofs.RoundTrip.{found}
+use Rattle.rules.specs.Found.{found}
 use Rattle.rules.specs.DrawingFile.{judge_lines, judge_drawing, read_drawing, order_back, longest_drawing}
 use Rattle.exchange.specs.DrawingRead.{good-range}
 

@@ -20,7 +20,8 @@ use Rattle.rules.specs.Styles.{bent, line_numbers}
 use Rattle.rules.specs.Adding.{points_of, add_entries, new_lines, new_bend}
 use Rattle.rules.specs.Ports.{bend_place}
 use Rattle.rules.specs.Records.{Size, Shape, Found, written, read_record, several, line_shape}
-use Rattle.rules.proofs.RoundTrip.{found, Fits, record_back}
+use Rattle.rules.specs.Found.{found, Fits}
+use Rattle.rules.proofs.RoundTrip.{record_back}
 use Rattle.rules.specs.OrderFile.{start_test, start_with}
 use Rattle.rules.specs.DrawingFile.{last_field, kind_from, line_words, write_lines, later_in, entry_in, group, behind, group_place, judge_rest, judge_lines}
 use Rattle.exchange.specs.Built.{Built, begun, added}

@@ -9,7 +9,7 @@ use Rattle.rules.specs.Moves.{Tool, is_tool, moves_once}
 use Rattle.rules.specs.OrderFile.{read_order}
 use Rattle.rules.specs.DrawingFile.{read_drawing}
 use Rattle.promise.specs.Promise.{IsLine, Promised}
-use Rattle.promise.proofs.Bounds.{Standing}
+use Rattle.promise.specs.Standing.{Standing}
 use Rattle.promise.specs.Exact.{ExactBy}
 use Rattle.promise.proofs.Exact.{sound-exact}
 use Rattle.promise.proofs.Theorem.{standing-keeps}

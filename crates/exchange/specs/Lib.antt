@@ -15,3 +15,4 @@ pub mod Demand2
 pub mod Kept
 pub mod Lengths
 pub mod NeverBoth
+pub mod LastFields

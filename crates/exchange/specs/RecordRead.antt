@@ -6,7 +6,7 @@ use Rattle.rules.specs.declared.Refusal.TheVariants.{FileEnds, WrongMark}
 use Rattle.rules.specs.Basics.{head_of}
 use Rattle.rules.specs.Refusals.{good}
 use Rattle.rules.specs.Records.{Size, plain, counted, Shape, Cursor, Found, bytes_of, sized, written, words_in, skip, words_at, first, rest_of, read_record}
-use Rattle.rules.proofs.RoundTrip.{Fits}
+use Rattle.rules.specs.Found.{Fits}
 use Rattle.exchange.specs.Built.{Bytes}
 use Rattle.exchange.specs.Numbers.{Words, words_cons}
 use Rattle.rules.specs.Results.{same_value, bound, tested}

@@ -13,7 +13,8 @@ use Rattle.rules.specs.OrderFile.{start_with, kind_at}
 use Rattle.rules.proofs.RoundTrip.{entry_back}
 use Rattle.rules.proofs.Lengths.{length-points}
 use Rattle.promise.specs.Accepted.{accepted}
-use Rattle.promise.proofs.Bounds.{Standing, standing-start, standing-added}
+use Rattle.promise.specs.Standing.{Standing}
+use Rattle.promise.proofs.Bounds.{standing-start, standing-added}
 use Rattle.exchange.specs.Built.{Built, begun, added}
 
 -- every entry names a point below 16,384, and there are at most 1,024 of them

@@ -1,2 +1,2 @@
-// No running code here: specs/ proves demand 2 over the definitions of rules, demand 3 of whatever calls and files give, and how long the files are.
+// No running code here: specs/ and proofs/ prove demand 2 over the definitions of rules, demand 3 of whatever calls and files give, and how long the files are.
 #![tactic(auto)]

@@ -1,2 +1,2 @@
-// No running code here: specs/ proves that a net which is taken always yields an order.
+// No running code here: specs/ and proofs/ prove that a net which is taken always yields an order.
 #![tactic(auto)]

@@ -10,7 +10,8 @@ use Rattle.rules.specs.Points.{Drawing}
 use Rattle.rules.specs.OrderFile.{read_order}
 use Rattle.rules.specs.Moves.{Tool, Move, is_tool, all_moves, given_moves}
 use Rattle.rules.proofs.Dwelling.{has_pitch}
-use Rattle.promise.proofs.Bounds.{Standing, lines_most}
+use Rattle.promise.specs.Standing.{Standing}
+use Rattle.promise.proofs.Bounds.{lines_most}
 use Rattle.exchange.specs.DrawingRead.{standing}
 use Rattle.exchange.specs.Kept.{order-reached}
 use Rattle.tool.specs.Exact.{AllSmall}

@@ -8,7 +8,7 @@ use Rattle.rules.specs.Basics.{between}
 use Rattle.rules.specs.Bools.{both, in_range}
 use Rattle.rules.specs.Points.{Drawing, line_at}
 use Rattle.rules.specs.Moves.{Tool, Move, travel, cut, plunge, lift, is_tool, without_dwelling, repeated, moves_of, moves_over, all_moves}
-use Rattle.promise.proofs.Bounds.{Standing}
+use Rattle.promise.specs.Standing.{Standing}
 use Rattle.tool.specs.Exact.{AllSmall}
 use Rattle.cutter_lines.specs.Grooves.{five_moves, once_moves}
 use Rattle.cutter_lines.specs.Sizes.{Handy, five_small}

@@ -7,7 +7,7 @@ use Rattle.rules.specs.declared.Style.TheVariants.{OneBend, Straight}
 use Rattle.rules.specs.declared.Kind.{Kind}
 use Rattle.rules.specs.declared.Entry.{Entry}
 use Rattle.rules.specs.Refusals.{good}
-use Rattle.rules.specs.Points.{Drawing, x_of, y_of, m, W, line_at, start}
+use Rattle.rules.specs.Points.{Drawing, x_of, y_of, W, line_at, start}
 use Rattle.rules.specs.Ports.{bend_place}
 use Rattle.rules.specs.Adding.{add_entries}
 use Rattle.net.specs.Bend.{bend}
@@ -16,7 +16,8 @@ use Rattle.net.specs.Frame.{Inside, spot_in}
 use Rattle.net.specs.Size.{inside}
 use Rattle.promise.specs.Promise.{IsLine}
 use Rattle.promise.specs.Nets.{net_of}
-use Rattle.promise.specs.Sound.{Sound, bent, unbent}
+use Rattle.promise.specs.Standing.{Ranged, Standing}
+use Rattle.promise.specs.Sound.{bent, unbent}
 use Rattle.promise.specs.Frames.{wide, framed}
 use Rattle.promise.specs.Next.{next}
 use Rattle.promise.specs.Border.{m'}
@@ -24,20 +25,6 @@ use Rattle.promise.specs.Opening.{sound-start}
 use Rattle.promise.specs.Accepted.{accepted}
 use Rattle.promise.specs.Spots.{spot-bend}
 use Rattle.promise.specs.Step.{sound-added}
-
--- the counts: n from 3 to 1,024, at most n points placed, no more of them on the boundary, and three once all are placed
-pub record Ranged (d : Drawing) : Type 0 where
-  pub low : 3 ≤ d.n
-  pub high : d.n ≤ 1024
-  pub room : d.k ≤ d.n
-  pub three : 3 ≤ d.k
-  pub border : m d ≤ d.k
-  pub closed : d.k ≡ d.n → m d ≡ 3
-
--- a drawing that came from opening and calls
-pub record Standing (d : Drawing) : Type 0 where
-  pub sound : Sound d
-  pub ranged : Ranged d
 
 ranged-start : (τ : Style) (n s : ℕ) (c1 c2 c3 : Kind) → 3 ≤ n → n ≤ 1024 → Ranged (start τ n s c1 c2 c3)
 ranged-start τ n s c1 c2 c3 low high = record { low = low; high = high; room = low; three = omega arith; border = omega arith; closed = λ e. refl }

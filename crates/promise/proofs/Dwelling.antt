@@ -14,7 +14,8 @@ use Rattle.rules.specs.Ports.{bend_place, has_port, free_piece}
 use Rattle.rules.specs.Meeting.{same_place}
 use Rattle.rules.specs.Demand.{no_length, port_at}
 use Rattle.rules.specs.Moves.{Tool, is_tool, line_moves, without_dwelling, moves_once}
-use Rattle.rules.proofs.Dwelling.{same_turned, moves_each, has_pitch, bent-count, straight-bent}
+use Rattle.rules.specs.MoveCounts.{moves_each}
+use Rattle.rules.proofs.Dwelling.{same_turned, has_pitch, bent-count, straight-bent}
 use Rattle.net.specs.BendKinds.{ends-apart}
 use Rattle.promise.specs.Promise.{IsLine}
 use Rattle.promise.specs.Sound.{Sound, bent}

@@ -9,7 +9,7 @@ use Rattle.net.specs.Size.{inside, top}
 use Rattle.promise.specs.Nets.{net_of}
 use Rattle.promise.specs.Promise.{Even, Wide, Finished}
 use Rattle.promise.specs.Sound.{Unbent}
-use Rattle.promise.proofs.Bounds.{Ranged}
+use Rattle.promise.specs.Standing.{Ranged}
 
 module _ {d : Drawing} (s : Unbent d) where
   pub even : Even d

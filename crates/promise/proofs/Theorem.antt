@@ -24,7 +24,8 @@ use Rattle.promise.proofs.Sectors.{sectors, single}
 use Rattle.promise.proofs.Planar.{planar}
 use Rattle.promise.proofs.Angled.{angles}
 use Rattle.promise.proofs.Within.{counted, points_framed, bends_framed, narrow}
-use Rattle.promise.proofs.Bounds.{Standing, standing-start, standing-added, place_most}
+use Rattle.promise.specs.Standing.{Standing}
+use Rattle.promise.proofs.Bounds.{standing-start, standing-added, place_most}
 use Rattle.promise.proofs.Straight.{even, wide, finished}
 
 -- a one-bend drawing keeps every clause of demand 3

@@ -1,15 +1,10 @@
 -- WISH 3, WHICH CUTS ARE LEFT OUT. In a one-bend drawing a line gives five moves each time that it is cut, or four: where its free piece has no length, or where it has no port, as line 1-2. A straight line gives four.
 -- Every word is a definition of `rules`.
-use Rattle.std.specs.Prelude.{ℕ, ◌≡◌, Bool, not, ◌&&◌, ◌||◌, if◌then◌else◌, suc, pred, ◌+◌, ◌-◌, ◌<◌, ◌≤◌, refl, ◌⊎◌, true, false, length, eqb}
-use Rattle.std.proofs.Common.{sym, ap, ◌∙◌, inl, inr, arith, eq-eqb, ne_eqb, eqb-true}
+use Rattle.std.specs.Prelude.{ℕ, ◌≡◌, Bool, not, ◌&&◌, ◌||◌, if◌then◌else◌}
 use Rattle.rules.specs.declared.Style.{Style}
 use Rattle.rules.specs.declared.Style.TheVariants.{OneBend, Straight}
 use Rattle.rules.specs.declared.Line.{Line}
-use Rattle.rules.specs.Points.{Drawing, place_of, x_of, y_of, line_at}
-use Rattle.rules.specs.declared.Place.{Place}
-use Rattle.rules.specs.declared.Bend.{Bend}
-use Rattle.rules.specs.declared.Bend.TheVariants.{Left, Right, Middle, NoBend}
-use Rattle.rules.specs.Bools.{both, is_false}
+use Rattle.rules.specs.Points.{Drawing, place_of}
 use Rattle.rules.specs.Ports.{bend_place, has_port, free_piece}
 use Rattle.rules.specs.Meeting.{same_place}
 use Rattle.rules.specs.Demand.{no_length, port_at}

@@ -26,3 +26,4 @@ pub mod Exact
 pub mod Frames
 pub mod Kinds
 pub mod Dwelling
+pub mod Standing

@@ -12,6 +12,7 @@ use Rattle.rules.specs.Bools.{both, is_false, in_range}
 use Rattle.rules.specs.Points.{Drawing, place_of}
 use Rattle.rules.specs.Ports.{bend_place}
 use Rattle.rules.specs.Meeting.{same_place}
+use Rattle.rules.specs.MoveCounts.{moves_each}
 use Rattle.rules.specs.Moves.{Tool, Move, travel, cut, plunge, lift, is_tool, eighths, line_moves, without_dwelling, moves_once, repeated, moves_over, all_moves}
 
 -- no cut among these moves goes to the place before it; (x, y) is the place before them
@@ -111,10 +112,6 @@ same_turned a b = rw (turned a.x b.x, turned a.y b.y)
   where
     turned : (m n : ℕ) → eqb m n ≡ eqb n m
     turned m n = same_test m n n m (λ e. sym e) (λ e. sym e)
-
--- how many moves a line over these places gives, each time that it is cut
-abbrev pub moves_each : Place → Place → Place → ℕ
-moves_each later bend earlier = 3 + (if same_place bend later then 0 else 1) + (if same_place earlier bend then 0 else 1)
 
 -- three moves, and two of which some are left out
 kept : (p q : Bool) (a b c d e : Move) → length (a ∷ b ∷ ((if p then [] else c ∷ []) ++ ((if q then [] else d ∷ []) ++ (e ∷ [])))) ≡ 3 + (if p then 0 else 1) + (if q then 0 else 1)

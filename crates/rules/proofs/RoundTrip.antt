@@ -10,6 +10,7 @@ use Rattle.rules.specs.Refusals.{Result, good, ◌>>=◌, ◌>>◌, refuse_if}
 use Rattle.rules.specs.Entries.{point_limit, reading, read_entry, top_bits, word_of, is_both}
 use Rattle.rules.specs.Readings.{kind_in, entry_of}
 use Rattle.rules.proofs.Lengths.{length-bytes}
+use Rattle.rules.specs.Found.{found, Fits}
 use Rattle.rules.specs.Records.{Size, plain, counted, Shape, Found, bytes_of, sized, written, words_in, words_at, first, rest_of, read_record}
 
 -- an entry, written and read
@@ -42,20 +43,11 @@ words_back (w ∷ ws) rest =
     let e : w / 256 * 256 + w % 256 ≡ w = omega arith in
     cc
 
--- what is found where the numbers ws were written
-abbrev pub found : ℕ → List ℕ → ℕ → List ℕ → Found
-found place ws next rest = record { place = place; words = ws; next = record { offset = next; bytes = rest } }
-
 -- the numbers of a record, written and read at a cursor
 pub words_at_lem : (place o : ℕ) (ws rest : List ℕ) → words_at place (length ws) (record { offset = o; bytes = bytes_of ws ++ rest }) ≡ good (found place ws (o + 2 * length ws) rest)
 words_at_lem place o ws rest =
     let short = le-ltb (length (bytes_of ws ++ rest)) (2 * length ws) (omega (arith, length-append (bytes_of ws) rest, length-bytes ws)) in
     rw (short, words_back ws rest, drop_at (bytes_of ws) rest (2 * length ws) (length-bytes ws))
-
--- the numbers that a record of this size may hold
-abbrev pub Fits : Size → List ℕ → Type 0
-Fits (plain c) ws = length ws ≡ c
-Fits counted ws = Unit {0}
 
 -- what follows the mark
 rest_back : (z : Size) (place o : ℕ) (ws rest : List ℕ) → Fits z ws →

@@ -23,3 +23,5 @@ pub mod Numbers
 pub mod Readings
 pub mod Same
 pub mod Indices
+pub mod MoveCounts
+pub mod Found

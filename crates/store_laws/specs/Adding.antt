@@ -12,7 +12,8 @@ use Rattle.rules.specs.Calls.{left}
 use Rattle.store_links.specs.declared.Counts.{Counts}
 use Rattle.store_links.specs.Arrays.{Arrays, Sized, Stores}
 use Rattle.store_links.specs.Storing.{judged, with_point, spot_for, change_for, arrays_after, counts_after}
-use Rattle.promise.proofs.Bounds.{Standing, standing-added}
+use Rattle.promise.specs.Standing.{Standing}
+use Rattle.promise.proofs.Bounds.{standing-added}
 use Rattle.promise.specs.Accepted.{accepted}
 use Rattle.store_laws.specs.Tests.{run-within, run-distinct}
 use Rattle.store_laws.specs.Reach.{judged_is, spotted}

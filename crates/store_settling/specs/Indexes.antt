@@ -5,7 +5,8 @@ use Rattle.rules.specs.declared.Bend.{Bend}
 use Rattle.rules.specs.declared.Bend.TheVariants.{Left, Right, Middle, NoBend}
 use Rattle.rules.specs.Points.{Drawing, W, line_at}
 use Rattle.rules.specs.Ports.{bend_of}
-use Rattle.promise.proofs.Bounds.{Standing, width_most, bend_most}
+use Rattle.promise.specs.Standing.{Standing}
+use Rattle.promise.proofs.Bounds.{width_most, bend_most}
 use Rattle.store_links.specs.Codes.{Indexed}
 
 -- a right or left port lies in the frame

@@ -2,7 +2,7 @@
 use Rattle.std.specs.Prelude.{ℕ, pred, ◌<◌, ◌≤◌, ◌≡◌, length, get_or}
 use Rattle.std.proofs.Common.{ap, ◌∙◌, arith}
 use Rattle.rules.specs.Points.{Drawing, line_at}
-use Rattle.promise.proofs.Bounds.{Standing}
+use Rattle.promise.specs.Standing.{Standing}
 use Rattle.store_links.specs.declared.Counts.{Counts}
 use Rattle.store_links.specs.Arrays.{Arrays, Stores}
 use Rattle.store_links.specs.Codes.{bend_from, bend_back}

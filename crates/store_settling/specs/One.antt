@@ -5,7 +5,7 @@ use Rattle.rules.specs.declared.Kind.TheVariants.{Guide}
 use Rattle.rules.specs.declared.Bend.TheVariants.{NoBend}
 use Rattle.rules.specs.Points.{Drawing, w, m}
 use Rattle.promise.specs.Sound.{Sound}
-use Rattle.promise.proofs.Bounds.{Standing}
+use Rattle.promise.specs.Standing.{Standing}
 use Rattle.store_links.specs.declared.Counts.{Counts}
 use Rattle.store_links.specs.Arrays.{Arrays, Stores, at_point}
 use Rattle.store_links.specs.Opening.{no_points}

@@ -13,7 +13,7 @@ use Rattle.rules.specs.Records.{written, point_place, line_shape, end_shape, hea
 use Rattle.rules.specs.DrawingFile.{highest, write_points, line_words, write_lines, drawing_bytes}
 use Rattle.store_links.specs.declared.Counts.{Counts}
 use Rattle.store_links.specs.Arrays.{Arrays}
-use Rattle.promise.proofs.Bounds.{Standing}
+use Rattle.promise.specs.Standing.{Standing}
 use Rattle.store_settling.specs.Bending.{Shows, shows_of, bend_right}
 use Rattle.store_lines.specs.Lines.{line_in}
 use Rattle.store_settling.specs.Lines as Lines

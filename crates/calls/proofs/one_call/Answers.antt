@@ -1,8 +1,12 @@
--- The place of the answer fits 16 bits.
-use Rattle.std.proofs.Common.{arith}
-use Rattle.store_tables.specs.Tables.{arrays_in}
-use Rattle.calls.specs.Places.{place_most}
+-- The answer is written, and the numbers are those after the call; the place of a refusal fits 16 bits.
+use Rattle.calls.proofs.Outcomes.{made, made-refused, place_fits}
 use Rattle.calls.proofs.one_call.Goals as goal
 
-pub put_answer-requires : goal.put_answer-requires
-put_answer-requires c = (c.requires.room, rw c.add-added.ensures.answer (omega (arith, place_most (arrays_in c.args.table.now) c.args.c c.args.e.now, c.requires.few)))
+pub returns-in-Ok : goal.returns-in-Ok
+returns-in-Ok c = made _ (rw c.in-Ok.is at c.add.ensures) c.put_answer.ensures
+
+pub put_answer-requires-in-Err : goal.put_answer-requires-in-Err
+put_answer-requires-in-Err c = (c.requires.room, place_fits _ (rw c.in-Err.is at c.add.ensures) c.requires.few)
+
+pub returns-in-Err : goal.returns-in-Err
+returns-in-Err c = made-refused _ (rw c.in-Err.is at c.add.ensures) c.put_answer-in-Err.ensures

@@ -4,17 +4,17 @@ use Rattle.calls_words.specs.Rests.{calls_most}
 use Rattle.calls.proofs.Outcomes.{out_of_range, too_short, accepted}
 use Rattle.calls.proofs.run_in.Goals as goal
 
-pub returns-then-n-lt-FEWEST_POINTS : goal.returns-then-n-lt-FEWEST_POINTS
-returns-then-n-lt-FEWEST_POINTS c = out_of_range (λ l u. omega arith) c.refuse.ensures c.requires
+pub returns-then-n-lt-FEWEST_POINTS-clause-ran : goal.returns-then-n-lt-FEWEST_POINTS-clause-ran
+returns-then-n-lt-FEWEST_POINTS-clause-ran c = rw c.at.ensures (out_of_range (λ l u. omega arith))
 
-pub returns-then-n-gt-MOST_POINTS : goal.returns-then-n-gt-MOST_POINTS
-returns-then-n-gt-MOST_POINTS c = out_of_range (λ l u. omega arith) c.refuse-then-n-gt-MOST_POINTS.ensures c.requires
+pub returns-then-n-gt-MOST_POINTS-clause-ran : goal.returns-then-n-gt-MOST_POINTS-clause-ran
+returns-then-n-gt-MOST_POINTS-clause-ran c = rw c.at-then-n-gt-MOST_POINTS.ensures (out_of_range (λ l u. omega arith))
 
 pub overflow_mul-needed : goal.overflow_mul-needed
 overflow_mul-needed c = omega (arith, calls_most c.args.calls.now)
 
-pub returns-then-answers-needed : goal.returns-then-answers-needed
-returns-then-answers-needed c = too_short (omega arith) (omega arith) (omega arith) c.refuse-then-answers-needed.ensures c.requires
+pub returns-then-answers-needed-clause-ran : goal.returns-then-answers-needed-clause-ran
+returns-then-answers-needed-clause-ran c = rw c.at-then-answers-needed.ensures (too_short (omega arith) (omega arith) (omega arith))
 
-pub returns : goal.returns
-returns c = accepted _ (record { low = omega arith; high = omega arith; room = omega arith }) c.draw_calls-counts.ensures
+pub returns-clause-ran : goal.returns-clause-ran
+returns-clause-ran c = accepted _ (record { low = omega arith; high = omega arith; room = omega arith }) c.draw_calls-counts.ensures
