@@ -5,40 +5,30 @@ use mathlib.Core.List.{List}
 use native.Mathlib.Omega.{arith}
 use lib.ListN.{length}
 use Rattle.rules.specs.declared.Style.{Style}
-use Rattle.rules.specs.declared.Refusal.{Refusal}
-use Rattle.rules.specs.declared.Answer.{Answer}
-use Rattle.rules.specs.declared.Answer.TheVariants.{Refused}
-use Rattle.rules.specs.Refusals.{Result, good, refused, ◌>>◌, answer}
+use Rattle.std.specs.Prelude.{Err}
+use Rattle.rules.specs.declared.Refused.{Refused}
+use Rattle.rules.specs.Refusals.{Answer, Result, answer}
 use Rattle.rules.specs.Readings.{entry_of}
 use Rattle.rules.specs.Points.{Drawing}
 use Rattle.rules.specs.DrawingFile.{entry_in, judge_rest, judge_drawing}
-use Rattle.store_links.specs.declared.Added.{Added}
 use Rattle.store_links.specs.declared.Counts.{Counts}
 use Rattle.store_links.specs.Arrays.{Arrays}
 use Rattle.store_links.specs.Opening.{open_arrays, open_counts}
 use Rattle.promise.proofs.Bounds.{standing-start}
 use Rattle.store_laws.specs.Adding.{Holds}
 use Rattle.store_laws.specs.Opened.{sized_open, stores_open}
-use Rattle.rules.specs.Results.{stops}
+use Rattle.rules.specs.Results.{refusing}
 use Rattle.read_groups.specs.Lines.{lines_at, line_at}
 use Rattle.read_groups.specs.Groups.{number_for}
 use Rattle.read_judging.specs.Files.{n_in, s_in, lines_from, line_count, lines_end, file_tests}
 use Rattle.rules.specs.Records.{head_size, place_size, line_size}
 use Rattle.read_drawings.specs.Whole.{judged_so, first_line, second_line, third_line, begun_in, Passes, number_back}
 use Rattle.read_drawings.specs.Contracted.{rest_groups, AllGrouped, LinesRead}
+use Rattle.read_orders.specs.Points.{Gave}
 
 -- a refusal before the groups
-pub refused-early : {τ : Style} {f : List ℕ} {a : Arrays} {c : Counts} (said : Answer) → said ≡ answer (file_tests τ f) → (r : Refusal) (p : ℕ) → said ≡ Refused r p → LinesRead τ f a (record { answer = said; counts = c })
-refused-early {τ} {f} said h r p q =
-    let t = sym h ∙ q in
-    record {
-      answers = h ∙ stops (file_tests τ f) _ r p t ∙ sym (ap answer (judged_so τ f));
-      holds = λ d z. absurd (never (file_tests τ f) _ d t (sym (judged_so τ f) ∙ z));
-    }
-  where
-    never : (x : Result (Unit {0})) (y : Result Drawing) (d : Drawing) → answer x ≡ Refused r p → (x >> y) ≡ good d → ⊥
-    never (good u) y d e z = let o : ◌≡◌ {A = ℕ} 0 1 = cc in omega arith
-    never (refused v i) y d e z = let o : ◌≡◌ {A = ℕ} 0 1 = cc in omega arith
+pub refused-early : (τ : Style) (f : List ℕ) {a : Arrays} {e : Refused} → answer (file_tests τ f) ≡ Err e → LinesRead τ f a (Err e)
+refused-early τ f {e = e} h = record { gives = judged_so τ f ∙ rw (refusing (file_tests τ f) e h) }
 
 -- where its lines lie
 pub lines_lie : {τ : Style} {f : List ℕ} → Passes τ f → (n : ℕ) → n ≡ n_in f → (head_size + place_size * n + line_size τ * (3 * n - 6) ≤ length f) × (3 ≤ n) × (n ≤ 1024)
@@ -68,5 +58,5 @@ module _ {τ : Style} {f : List ℕ} (t : Passes τ f) (n s : ℕ) (isN : n ≡ 
       ap (λ (m : ℕ). judge_rest τ (m - 3) (lines_end τ m) (begun_in τ f) (lines_at τ f (line_count m - 3) (lines_from m + line_size τ * 3))) isN ∙ sym t.left
 
   -- the whole file
-  pub all_read : {a a' : Arrays} {c : Counts} {r : Added} → c ≡ open_counts τ n s → Holds (begun_in τ f) a c → AllGrouped τ f (head_size + place_size * n) (3 * n - 6) a c a' r → LinesRead τ f a' r
-  all_read e h g = record { answers = g.answers (begun_in τ f) h ∙ ap answer (left_over e); holds = λ d q. g.holds (begun_in τ f) d h (left_over e ∙ q) }
+  pub all_read : {a a' : Arrays} {c : Counts} {r : Answer Counts} → c ≡ open_counts τ n s → Holds (begun_in τ f) a c → AllGrouped τ f (head_size + place_size * n) (3 * n - 6) a c a' r → LinesRead τ f a' r
+  all_read {a} {a'} {c} {r} e h g = subst (λ (o : Result Drawing). Gave o a' r) (left_over e) (g (begun_in τ f) h)

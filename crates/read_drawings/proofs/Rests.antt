@@ -1,21 +1,20 @@
 -- One turn of the loop over the groups: what is left to judge, from the drawing that the arrays hold.
 use Prim.Native.Nat.{ℕ, suc, ◌+◌, ◌-◌, ◌*◌, ◌<◌, ◌≤◌}
-use mathlib.Core.Path.{◌≡◌, refl, ap, sym, ◌∙◌, subst}
+use mathlib.Core.Path.{◌≡◌, refl, ap, ◌∙◌}
 use mathlib.Core.List.{List}
 use native.Mathlib.Omega.{arith}
 use Rattle.rules.specs.declared.Style.{Style}
-use Rattle.rules.specs.declared.Refusal.{Refusal}
-use Rattle.rules.specs.declared.Answer.TheVariants.{Accepted, Refused}
-use Rattle.rules.specs.Refusals.{Result, good, refused, ◌>>=◌, answer}
+use Rattle.std.specs.Prelude.{Ok, Err}
+use Rattle.rules.specs.declared.Refused.{Refused}
+use Rattle.rules.specs.Refusals.{Result, good, ◌>>=◌}
 use Rattle.rules.specs.Points.{Drawing}
-use Rattle.rules.specs.Calls.{left}
 use Rattle.rules.specs.DrawingFile.{behind, judge_rest}
-use Rattle.store_links.specs.declared.Added.{Added}
 use Rattle.store_links.specs.declared.Counts.{Counts}
 use Rattle.store_links.specs.Arrays.{Arrays}
 use Rattle.store_laws.specs.Adding.{Holds}
 use Rattle.rules.specs.Records.{line_size}
-use Rattle.read_drawings.specs.Contracted.{lines_behind, next_group, rest_groups, GroupBehind, Grouped}
+use Rattle.read_drawings.specs.Contracted.{lines_behind, next_group, rest_groups, Grouped}
+use Rattle.read_orders.specs.Points.{Gave}
 
 -- the arrays hold a drawing from which the rest of the groups gives z
 pub record Going (τ : Style) (f : List ℕ) (base total : ℕ) (z : Result Drawing) (a : Arrays) (c : Counts) : Type 0 where
@@ -43,46 +42,30 @@ rest_none τ f base total c d h =
 pub going_start : (τ : Style) (f : List ℕ) (base total : ℕ) (a : Arrays) (c : Counts) (d : Drawing) → c.lines ≤ total → Holds d a c → Going τ f base total (rest_groups τ f base total c d) a c
 going_start τ f base total a c d few h = record { d = d; holds = h; few = few; same = refl }
 
-module _ {τ : Style} {f : List ℕ} {base total : ℕ} {z : Result Drawing} {a a' : Arrays} {c : Counts} {r : Added} (g : Going τ f base total z a c) (more : c.k < c.n) (s : Grouped τ f base total a c a' r) where
-  abbrev next : Result Drawing
-  next = next_group τ f base total c.lines g.d
+module _ {τ : Style} {f : List ℕ} {base total : ℕ} {z : Result Drawing} {a : Arrays} {c : Counts} (g : Going τ f base total z a c) where
+  -- a group is left
+  module _ (more : c.k < c.n) where
+    abbrev next : Result Drawing
+    next = next_group τ f base total c.lines g.d
 
-  abbrev after : Drawing → Result Drawing
-  after e = judge_rest τ (c.n - suc c.k) (base + line_size τ * total) e (behind (suc g.d.k) (lines_behind τ f base total c.lines))
+    abbrev after : Drawing → Result Drawing
+    after e = judge_rest τ (c.n - suc c.k) (base + line_size τ * total) e (behind (suc g.d.k) (lines_behind τ f base total c.lines))
 
-  by_next : z ≡ (next >>= after)
-  by_next = g.same ∙ rest_more τ f base total c g.d more
+    by_next : z ≡ (next >>= after)
+    by_next = g.same ∙ rest_more τ f base total c g.d more
 
-  -- an accepted group
-  pub going_on : r.answer ≡ Accepted → Going τ f base total z a' r.counts
-  going_on q = go next refl (s.holds g.d g.holds)
-    where
-      b : GroupBehind τ f base total c g.d r.counts
-      b = s.behind_it g.d g.holds q
+    -- it is added
+    pub going_on : {a' : Arrays} {c' : Counts} → Grouped τ f base total a c a' (Ok c') → Going τ f base total z a' c'
+    going_on {c' = c'} s =
+        let x = s g.d g.holds in
+        let b = x.behind_it in
+        let count : c.n - suc c.k ≡ c'.n - c'.k = omega (arith, b.n, b.k) in
+        record { d = x.drawn.drawing; holds = x.drawn.holds; few = b.few; same = by_next ∙ ap (λ y. y >>= after) x.drawn.is ∙ rw (b.rest, count) }
 
-      go : (x : Result Drawing) → next ≡ x → Holds (left g.d x) a' r.counts → Going τ f base total z a' r.counts
-      go (good e) p h =
-          let count : c.n - suc c.k ≡ r.counts.n - r.counts.k = omega (arith, b.n, b.k) in
-          record { d = e; holds = h; few = b.few; same = by_next ∙ ap (λ x. x >>= after) p ∙ rw (b.rest, count) }
-      go (refused w o) p h = absurd (let y : ◌≡◌ {A = ℕ} 0 1 = cc (sym (s.answers g.d g.holds) ∙ q, p) in omega arith)
+    -- it is refused
+    pub stopped : {a' : Arrays} {e : Refused} → Grouped τ f base total a c a' (Err e) → Gave z a' (Err e)
+    stopped s = record { gives = by_next ∙ ap (λ y. y >>= after) (s g.d g.holds).0 }
 
-  -- a refused one
-  pub stopped : (w : Refusal) (o : ℕ) → r.answer ≡ Refused w o → (r.answer ≡ answer z) × ((e : Drawing) → z ≡ good e → ⊥)
-  stopped w o q = go next refl
-    where
-      go : (x : Result Drawing) → next ≡ x → (r.answer ≡ answer z) × ((e : Drawing) → z ≡ good e → ⊥)
-      go (good e) p = absurd (let y : ◌≡◌ {A = ℕ} 0 1 = cc (sym (s.answers g.d g.holds) ∙ q, p) in omega arith)
-      go (refused v i) p =
-          let ends : z ≡ refused v i = by_next ∙ ap (λ x. x >>= after) p in
-          (s.answers g.d g.holds ∙ ap answer p ∙ sym (ap answer ends), λ e h. let y : ◌≡◌ {A = ℕ} 0 1 = cc in omega arith)
-
--- all groups are added
-module _ {τ : Style} {f : List ℕ} {base total : ℕ} {z : Result Drawing} {a : Arrays} {c : Counts} (g : Going τ f base total z a c) (full : c.n ≤ c.k) where
-  is_good : z ≡ good g.d
-  is_good = g.same ∙ rest_none τ f base total c g.d full
-
-  pub all_answers : Accepted ≡ answer z
-  all_answers = sym (ap answer is_good)
-
-  pub all_holds : (e : Drawing) → z ≡ good e → Holds e a c
-  all_holds e h = let same : g.d ≡ e = cc (is_good, h) in subst (λ (x : Drawing). Holds x a c) same g.holds
+  -- all groups are added
+  pub all_added : c.n ≤ c.k → Gave z a (Ok c)
+  all_added full = record { gives = record { drawing = g.d; is = g.same ∙ rest_none τ f base total c g.d full; holds = g.holds } }

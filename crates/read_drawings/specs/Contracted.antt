@@ -1,24 +1,16 @@
 -- What the functions of this crate ask and leave, for a drawing file of a style.
-use Rattle.std.specs.Prelude.{ℕ, suc, ◌+◌, ◌-◌, ◌*◌, ◌≤◌, ◌≡◌, List, length}
+use Rattle.std.specs.Prelude.{ℕ, suc, ◌+◌, ◌-◌, ◌*◌, ◌≤◌, ◌≡◌, List, length, Ok, Err}
 use Rattle.rules.specs.declared.Style.{Style}
-use Rattle.rules.specs.declared.Answer.{Answer}
-use Rattle.rules.specs.declared.Answer.TheVariants.{Accepted, Refused}
-use Rattle.rules.specs.Refusals.{Result, good, answer, placed}
+use Rattle.rules.specs.Refusals.{Answer, Result, refused, placed}
 use Rattle.rules.specs.Points.{Drawing}
 use Rattle.rules.specs.Adding.{add_entries}
-use Rattle.rules.specs.Calls.{left}
 use Rattle.rules.specs.Records.{Found, line_size}
 use Rattle.rules.specs.DrawingFile.{group, behind, group_place, judge_rest, judge_drawing}
-use Rattle.store_links.specs.declared.Added.{Added}
 use Rattle.store_links.specs.declared.Counts.{Counts}
 use Rattle.store_links.specs.Arrays.{Arrays}
 use Rattle.store_laws.specs.Adding.{Holds, Ready}
 use Rattle.read_groups.specs.Lines.{lines_at}
-
--- an answer, with a refusal at this place
-abbrev pub answer_at : ℕ → Answer → Answer
-answer_at place Accepted = Accepted
-answer_at place (Refused r p) = Refused r place
+use Rattle.read_orders.specs.Points.{Drawn, Gave}
 
 -- ---- the groups, one after another
 
@@ -49,20 +41,22 @@ pub record GroupBehind (τ : Style) (f : List ℕ) (base total : ℕ) (c : Count
   pub few : c'.lines ≤ total
   pub rest : behind (suc d.k) (lines_behind τ f base total c.lines) ≡ lines_behind τ f base total c'.lines
 
--- what adding the next group leaves, whatever drawing d the arrays held
-pub record Grouped (τ : Style) (f : List ℕ) (base total : ℕ) (a : Arrays) (c : Counts) (a' : Arrays) (r : Added) : Type 0 where
-  pub answers : (d : Drawing) → Holds d a c → r.answer ≡ answer (next_group τ f base total c.lines d)
-  pub holds : (d : Drawing) → Holds d a c → Holds (left d (next_group τ f base total c.lines d)) a' r.counts
-  pub behind_it : (d : Drawing) → Holds d a c → r.answer ≡ Accepted → GroupBehind τ f base total c d r.counts
+-- the next group was added to the drawing d
+pub record Entered (τ : Style) (f : List ℕ) (base total : ℕ) (c : Counts) (a' : Arrays) (c' : Counts) (d : Drawing) : Type 0 where
+  pub drawn : Drawn (next_group τ f base total c.lines d) a' c'
+  pub behind_it : GroupBehind τ f base total c d c'
+
+-- what adding the next group leaves, whatever drawing d the arrays held: after a refusal they hold it still
+abbrev pub Grouped : Style → List ℕ → ℕ → ℕ → Arrays → Counts → Arrays → Answer Counts → Type 0
+Grouped τ f base total a c a' (Ok c') = (d : Drawing) → Holds d a c → Entered τ f base total c a' c' d
+Grouped τ f base total a c a' (Err e) = (d : Drawing) → Holds d a c → (next_group τ f base total c.lines d ≡ refused e.refusal e.place) × Holds d a' c
 
 -- what adding all groups leaves; what the arrays hold after a refusal is left open
-pub record AllGrouped (τ : Style) (f : List ℕ) (base total : ℕ) (a : Arrays) (c : Counts) (a' : Arrays) (r : Added) : Type 0 where
-  pub answers : (d : Drawing) → Holds d a c → r.answer ≡ answer (rest_groups τ f base total c d)
-  pub holds : (d z : Drawing) → Holds d a c → rest_groups τ f base total c d ≡ good z → Holds z a' r.counts
+abbrev pub AllGrouped : Style → List ℕ → ℕ → ℕ → Arrays → Counts → Arrays → Answer Counts → Type 0
+AllGrouped τ f base total a c a' r = (d : Drawing) → Holds d a c → Gave (rest_groups τ f base total c d) a' r
 
 -- ---- the file
 
 -- what reading a file leaves; what the arrays hold after a refusal is left open
-pub record LinesRead (τ : Style) (f : List ℕ) (a' : Arrays) (r : Added) : Type 0 where
-  pub answers : r.answer ≡ answer (judge_drawing τ f)
-  pub holds : (d : Drawing) → judge_drawing τ f ≡ good d → Holds d a' r.counts
+abbrev pub LinesRead : Style → List ℕ → Arrays → Answer Counts → Type 0
+LinesRead τ f a' r = Gave (judge_drawing τ f) a' r

@@ -6,11 +6,11 @@ use mathlib.Core.List.{List}
 use native.Mathlib.Omega.{arith}
 use lib.ListN.{length}
 use Rattle.rules.specs.declared.Style.{Style}
-use Rattle.rules.specs.declared.Refusal.{Refusal}
+use Rattle.std.specs.Prelude.{Ok, Err}
+use Rattle.rules.specs.declared.Refused.{Refused}
 use Rattle.rules.specs.declared.Refusal.TheVariants.{OutOfRange}
-use Rattle.rules.specs.declared.Answer.TheVariants.{Accepted, Refused}
 use Rattle.rules.specs.Basics.{between}
-use Rattle.rules.specs.Refusals.{Result, ◌>>◌, answer}
+use Rattle.rules.specs.Refusals.{Result, ◌>>◌, answer, refusal_at}
 use Rattle.rules.specs.Styles.{drawing_mark, line_numbers}
 use Rattle.rules.specs.Records.{read_end, place_mark, line_mark, head_size}
 use Rattle.rules.specs.Results.{all_passed, stops, goes_on}
@@ -26,23 +26,23 @@ module _ (τ : Style) (f : List ℕ) where
   abbrev head : Result (Unit {0})
   head = record_tests f (drawing_mark τ) 4 1 0
 
-  pub head-stops : (r : Refusal) (p : ℕ) → answer head ≡ Refused r p → answer head ≡ answer (head_tests τ f)
+  pub head-stops : (e : Refused) → answer head ≡ Err e → answer head ≡ answer (head_tests τ f)
   unfolding head_tests
-  head-stops r p h = stops head _ r p h
+  head-stops e h = stops head _ e h
 
-  module _ (h : answer head ≡ Accepted) where
+  module _ (h : answer head ≡ Ok tt) where
     pub head-long : head_size ≤ length f
     head-long = records_there f (drawing_mark τ) 4 1 0 (omega arith) (all_passed head h)
 
-    pub n_out : between 3 1024 (n_in f) ≡ false → Refused OutOfRange 0 ≡ answer (head_tests τ f)
+    pub n_out : between 3 1024 (n_in f) ≡ false → Err (refusal_at OutOfRange 0) ≡ answer (head_tests τ f)
     unfolding head_tests
     n_out q = rw (all_passed head h, q)
 
-    pub s_out : between 3 1024 (n_in f) ≡ true → between 1 8 (s_in f) ≡ false → Refused OutOfRange 0 ≡ answer (head_tests τ f)
+    pub s_out : between 3 1024 (n_in f) ≡ true → between 1 8 (s_in f) ≡ false → Err (refusal_at OutOfRange 0) ≡ answer (head_tests τ f)
     unfolding head_tests
     s_out q t = rw (all_passed head h, q, t)
 
-    pub head-good : between 3 1024 (n_in f) ≡ true → between 1 8 (s_in f) ≡ true → Accepted ≡ answer (head_tests τ f)
+    pub head-good : between 3 1024 (n_in f) ≡ true → between 1 8 (s_in f) ≡ true → Ok tt ≡ answer (head_tests τ f)
     unfolding head_tests
     head-good q t = rw (all_passed head h, q, t)
 
@@ -55,19 +55,19 @@ module _ (τ : Style) (f : List ℕ) where
     abbrev lines : Result (Unit {0})
     lines = record_tests f line_mark (line_numbers τ) (line_count n) (lines_from n)
 
-    pub points_stop : (r : Refusal) (p : ℕ) → answer points ≡ Refused r p → answer points ≡ answer (body_tests τ f n)
+    pub points_stop : (e : Refused) → answer points ≡ Err e → answer points ≡ answer (body_tests τ f n)
     unfolding body_tests
-    points_stop r p h = stops points _ r p h
+    points_stop e h = stops points _ e h
 
-    module _ (h : answer points ≡ Accepted) where
+    module _ (h : answer points ≡ Ok tt) where
       pub points_there : lines_from n ≤ length f
       points_there = records_there f place_mark 2 n head_size start (all_passed points h)
 
-      pub lines_stop : (r : Refusal) (p : ℕ) → answer lines ≡ Refused r p → answer lines ≡ answer (body_tests τ f n)
+      pub lines_stop : (e : Refused) → answer lines ≡ Err e → answer lines ≡ answer (body_tests τ f n)
       unfolding body_tests
-      lines_stop r p q = stops lines _ r p q ∙ goes_on points _ h
+      lines_stop e q = stops lines _ e q ∙ goes_on points _ h
 
-      module _ (g : answer lines ≡ Accepted) where
+      module _ (g : answer lines ≡ Ok tt) where
         pub lines_there : lines_end τ n ≤ length f
         lines_there = records_there f line_mark (line_numbers τ) (line_count n) (lines_from n) points_there (all_passed lines g)
 
@@ -77,15 +77,15 @@ module _ (τ : Style) (f : List ℕ) where
 
   -- ---- the header, the records, points 1 to 3
 
-  pub file-head : (r : Refusal) (p : ℕ) → answer (head_tests τ f) ≡ Refused r p → answer (head_tests τ f) ≡ answer (file_tests τ f)
+  pub file-head : (e : Refused) → answer (head_tests τ f) ≡ Err e → answer (head_tests τ f) ≡ answer (file_tests τ f)
   unfolding file_tests
-  file-head r p h = stops (head_tests τ f) _ r p h
+  file-head e h = stops (head_tests τ f) _ e h
 
-  module _ (h : answer (head_tests τ f) ≡ Accepted) (n : ℕ) (is : n ≡ n_in f) where
-    pub file-body : (r : Refusal) (p : ℕ) → answer (body_tests τ f n) ≡ Refused r p → answer (body_tests τ f n) ≡ answer (file_tests τ f)
+  module _ (h : answer (head_tests τ f) ≡ Ok tt) (n : ℕ) (is : n ≡ n_in f) where
+    pub file-body : (e : Refused) → answer (body_tests τ f n) ≡ Err e → answer (body_tests τ f n) ≡ answer (file_tests τ f)
     unfolding file_tests
-    file-body r p q = stops (body_tests τ f n) _ r p q ∙ ap (λ (m : ℕ). answer (body_tests τ f m >> start_tests τ (lines_end τ m) (lines_at τ f (line_count m) (lines_from m)))) is ∙ goes_on (head_tests τ f) _ h
+    file-body e q = stops (body_tests τ f n) _ e q ∙ ap (λ (m : ℕ). answer (body_tests τ f m >> start_tests τ (lines_end τ m) (lines_at τ f (line_count m) (lines_from m)))) is ∙ goes_on (head_tests τ f) _ h
 
-    pub file-start : answer (body_tests τ f n) ≡ Accepted → answer (start_tests τ (lines_end τ n) (lines_at τ f (line_count n) (lines_from n))) ≡ answer (file_tests τ f)
+    pub file-start : answer (body_tests τ f n) ≡ Ok tt → answer (start_tests τ (lines_end τ n) (lines_at τ f (line_count n) (lines_from n))) ≡ answer (file_tests τ f)
     unfolding file_tests
     file-start g = goes_on (body_tests τ f n) _ g ∙ ap (λ (m : ℕ). answer (body_tests τ f m >> start_tests τ (lines_end τ m) (lines_at τ f (line_count m) (lines_from m)))) is ∙ goes_on (head_tests τ f) _ h

@@ -5,29 +5,27 @@
 ghost use Rattle.store_tables.specs.Tables.{Full, arrays_in};
 ghost use Rattle.read_long.specs.Long.{Long, LongRead};
 
-use rules::{Answer, Refusal};
+use read_records::Cursor;
+use rules::Refusal;
 use store_judging::judge_entry;
 use store_links::Counts;
 use store_tables::{OWNER, YS};
 use words::word_at;
 
-// Its refusal, for `count` entries at `from` of the file: 21, then entry by entry 13, 6, 7, then 8.
+// Its refusal, for `count` entries from the cursor on: 21, then entry by entry 13, 6, 7, then 8.
 #[tactic(auto, unfolding(store_tables::specs::Tables::arrays_in))]
-pub fn judge_long(f: &[u8], from: usize, count: usize, table: &[u16], c: Counts) -> Refusal
-    requires { Long f.now from count (arrays_in table.now) c × Full table.now }
-    ensures { LongRead f.now from count (arrays_in table.now) c result }
+pub fn judge_long(entries: &Cursor, count: usize, table: &[u16], c: Counts) -> Refusal
+    requires { Long entries.now.file.now entries.now.at count (arrays_in table.now) c × Full table.now }
+    ensures { LongRead entries.now.file.now entries.now.at count (arrays_in table.now) c result }
 {
     if c.n <= c.k {
         return Refusal::Finished;
     }
-    let mut i = 0;
-    while i < count {
-        let e = word_at(f, from + 2 * i);
-        let said = judge_entry(e, &table[OWNER..YS], c.k, i);
-        if let Answer::Refused(r, _) = said {
-            return r;
+    for i in 0..count {
+        let e = word_at(entries.file, entries.at + 2 * i);
+        if let Err(refused) = judge_entry(e, &table[OWNER..YS], c.k, i) {
+            return refused.refusal;
         }
-        i += 1;
     }
     Refusal::NoRun
 }

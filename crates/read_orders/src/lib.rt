@@ -5,113 +5,80 @@
 ghost use Rattle.std.specs.Prelude.{◌≡◌, length};
 ghost use Rattle.rules.specs.OrderFile.{read_points, read_order};
 ghost use Rattle.store_tables.specs.Tables.{arrays_in};
+ghost use Rattle.store_laws.specs.Adding.{Ready};
 ghost use Rattle.store_points.specs.Zeros.{zeros};
 ghost use Rattle.read_records.specs.Cursors.{cursor};
-ghost use Rattle.read_orders.specs.Points.{Going, PointRead, RestRead, Headed, Gave};
+ghost use Rattle.read_orders.specs.Points.{PointRead, RestRead, Headed, Gave};
 
-use read_records::{Entries, copy_numbers, read_end, read_entries};
-use read_start::{Head, Start, read_first, read_head};
-use rules::{Answer, Refusal, Style};
-use store_links::{Added, Counts};
+use read_records::Cursor;
+use read_start::{read_first, read_head};
+use rules::{Answer, Style};
+use store_links::Counts;
 use store_tables::{POINTS, Table};
 
 // One point more: the numbers with it, and the offset behind its record.
 #[derive(Clone, Copy)]
-enum Step {
-    Given { counts: Counts, at: usize },
-    Refused(Refusal, usize),
+struct Step {
+    counts: Counts,
+    at: usize,
 }
 
 // One point more: its record, tested and added as a call adds; its refusals stand at its mark.
-fn read_point(f: &[u8], at: usize, table: &mut Table, c: Counts, e: &mut [u16]) -> Step
-    requires { Going f.now at (arrays_in table.old) c × (length e.old ≡ 1024) }
-    ensures { PointRead f.now at (arrays_in table.old) c (arrays_in table.new) result }
+fn read_point(here: &Cursor, table: &mut Table, c: Counts, e: &mut [u16]) -> Answer<Step>
+    requires { Ready (arrays_in table.old) c × (length e.old ≡ 1024) }
+    ensures { PointRead here.now.file.now here.now.at (arrays_in table.old) c (arrays_in table.new) result }
 {
-    match read_entries(f, at) {
-        Entries::Refused(r, p) => Step::Refused(r, p),
-        Entries::Given { count, from, next } => {
-            if POINTS < count {
-                return Step::Refused(read_long::judge_long(f, from, count, table, c), at);
-            }
-            copy_numbers(f, from, count, e);
-            let added = store_adding::add(table, c, &e[..count]);
-            let answer = added.answer;
-            let counts = added.counts;
-            match answer {
-                Answer::Refused(r, _) => Step::Refused(r, at),
-                Answer::Accepted => Step::Given { counts, at: next },
-            }
-        }
+    let record = here.entries()?;
+    let entries = here.moved_to(record.from);
+    if POINTS < record.count {
+        return Err(read_long::judge_long(&entries, record.count, table, c).at(here.at));
     }
-}
-
-// A refusal; the numbers mean nothing then.
-fn refuse(r: Refusal, p: usize) -> Added
-    ensures { result.answer ≡ Answer.Refused r p }
-{
-    Added {
-        answer: Answer::Refused(r, p),
-        counts: store_links::no_counts(),
+    entries.copy_numbers(record.count, e);
+    match store_adding::add(table, c, &e[..record.count]) {
+        Ok(counts) => Ok(Step {
+            counts,
+            at: record.next,
+        }),
+        Err(refused) => Err(refused.refusal.at(here.at)),
     }
 }
 
 // The records of so many points more, then the end.
-fn read_rest(f: &[u8], at: usize, points: usize, table: &mut Table, c: Counts) -> Added
-    requires { Going f.now at (arrays_in table.old) c }
-    ensures { RestRead f.now at points (arrays_in table.old) c (arrays_in table.new) result }
+fn read_rest(start: &Cursor, points: usize, table: &mut Table, c: Counts) -> Answer<Counts>
+    requires { Ready (arrays_in table.old) c }
+    ensures { RestRead start.now.file.now start.now.at points (arrays_in table.old) c (arrays_in table.new) result }
 {
-    let mut place = at;
-    let mut left = points;
+    let mut at = start.at;
     let mut counts = c;
     let mut e = [0u16; POINTS];
-    while 0 < left {
-        match read_point(f, place, table, counts, &mut e) {
-            Step::Refused(r, p) => {
-                return refuse(r, p);
-            }
-            Step::Given {
-                counts: with,
-                at: behind,
-            } => {
-                counts = with;
-                place = behind;
-                left -= 1;
-            }
-        }
+    for i in 0..points {
+        let step = read_point(&start.moved_to(at), table, counts, &mut e)?;
+        counts = step.counts;
+        at = step.at;
     }
-    Added {
-        answer: read_end(f, place),
-        counts,
-    }
+    start.moved_to(at).end()?;
+    Ok(counts)
 }
 
 // Points 1 to n, behind the header of a file with n points and the scale s.
-fn read_points(f: &[u8], at: usize, style: Style, n: usize, s: usize, table: &mut Table) -> Added
-    requires { Headed f.now at n table.old }
-    ensures { Gave (read_points style n s (cursor f.now at)) (arrays_in table.new) result }
+fn read_points(here: &Cursor, style: Style, n: usize, s: usize, table: &mut Table) -> Answer<Counts>
+    requires { Headed n table.old }
+    ensures { Gave (read_points style n s (cursor here.now.file.now here.now.at)) (arrays_in table.new) result }
 {
-    match read_first(f, at) {
-        Start::Refused(r, p) => refuse(r, p),
-        Start::Given {
-            a,
-            b,
-            c,
-            at: behind,
-        } => {
-            let counts = store_points::open_in(table, style, n, s, a, b, c);
-            let points = n - 3;
-            read_rest(f, behind, points, table, counts)
-        }
-    }
+    let start = read_first(here)?;
+    let counts = store_points::open_in(table, style, n, s, start.a, start.b, start.c);
+    read_rest(&here.moved_to(start.at), n - 3, table, counts)
 }
 
 // Reads an order file into a table of zeros, as a drawing of this style. After a refusal it holds anything: throw it away.
-pub fn read_order(f: &[u8], style: Style, table: &mut Table) -> Added
+pub fn read_order(f: &[u8], style: Style, table: &mut Table) -> Answer<Counts>
     requires { table.old ≡ zeros }
     ensures { Gave (read_order style f.now) (arrays_in table.new) result }
 {
-    match read_head(f) {
-        Head::Refused(r, p) => refuse(r, p),
-        Head::Given { n, s, at } => read_points(f, at, style, n, s, table),
-    }
+    let head = read_head(f)?;
+    let points = Cursor {
+        file: f,
+        at: head.at,
+    };
+    read_points(&points, style, head.n, head.s, table)
 }

@@ -11,7 +11,7 @@ ghost use Rattle.store_calls.specs.Stages.{lined};
 use store_links::{Counts, Spot, line_code, new_bend};
 use store_points::{cover, grow_ports, link};
 use store_tables::{BENDS, DLS, DRS, HS, LATER, WORDS};
-use words::{narrow, point_of};
+use words::point_of;
 
 // A line for each entry, from the new point, behind the lines that are there.
 #[tactic(auto, unfolding(store_links::specs::Storing::filled))]
@@ -21,15 +21,13 @@ fn push_lines(e: &[u16], table: &mut [u16], c: Counts, rights: u16, lefts: u16, 
 {
     let style = c.style;
     let at = c.lines;
-    let new = narrow(c.k + 1);
+    let new = (c.k + 1) as u16;
     let last = e.len() - 1;
-    let mut i = 0;
-    while i < e.len() {
+    for i in 0..e.len() {
         let line = at + i;
         table[WORDS + line] = e[i];
         table[LATER + line] = new;
         table[BENDS + line] = line_code(style, new_bend(rights, lefts, last, from, i));
-        i += 1;
     }
 }
 
@@ -41,7 +39,7 @@ pub fn store(table: &mut [u16], c: Counts, e: &[u16], p: Spot, from: usize)
 {
     let style = c.style;
     let v = c.k + 1;
-    let new = narrow(v);
+    let new = v as u16;
     let wl = point_of(e[0]);
     let wr = point_of(e[e.len() - 1]);
     cover(e, table, p, new);

@@ -16,13 +16,6 @@ use store_links::Spot;
 use styles::{amount, inset};
 use words::point_of;
 
-// A stored number, to compute with.
-fn broad(x: u16) -> usize
-    ensures { (result ≡ x) × (result < 65536) }
-{
-    x as usize
-}
-
 // The earlier point of entry i.
 fn point_at(e: &[u16], i: usize) -> usize
     requires { (i < length e.now) × Within 1024 e.now }
@@ -36,8 +29,7 @@ fn at_point(xs: &[u16], p: usize) -> usize
     requires { (length xs.now ≡ 1024) × (0 < p) × (p ≤ 1024) }
     ensures { (result ≡ at_point xs.now p) × (result < 65536) }
 {
-    let at = p - 1;
-    broad(xs[at])
+    usize::from(xs[p - 1])
 }
 
 // How far the last entry's point lies to the right of the first entry's.
@@ -47,10 +39,8 @@ pub fn way_over(e: &[u16], gap: &[u16]) -> usize
 {
     let last = e.len() - 1;
     let mut far = 0;
-    let mut i = 0;
-    while i < last {
-        i += 1;
-        let q = point_at(e, i);
+    for i in 0..last {
+        let q = point_at(e, i + 1);
         far += at_point(gap, q);
     }
     far
@@ -79,8 +69,8 @@ pub fn spot_of(
 {
     let s1 = amount(style, rights);
     let widened = far + s1 + amount(style, lefts);
-    let left = broad(yl);
-    let right = broad(yr);
+    let left = usize::from(yl);
+    let right = usize::from(yr);
     let total = widened + (widened + left + right) % 2;
     let dx = (total + right - left) / 2;
     let inside = inset(style);
@@ -140,13 +130,11 @@ fn all_reach(p: Spot, gap: &[u16], ys: &[u16], e: &[u16]) -> bool
 {
     let inner = e.len() - 2;
     let mut a = p.s1;
-    let mut i = 0;
-    while i < inner {
-        i += 1;
-        let q = point_at(e, i);
+    for i in 0..inner {
+        let q = point_at(e, i + 1);
         a += at_point(gap, q);
         let y = at_point(ys, q);
-        if !either_reaches(p, i, a, y) {
+        if !either_reaches(p, i + 1, a, y) {
             return false;
         }
     }

@@ -17,14 +17,14 @@ use rules::{Bend, Style};
 use store_links::{Counts, GAP_OFFSET, NO_PORT, Spot, line_code};
 use store_tables::{BENDS, DLS, DRS, GAP, HS, LATER, NEXT, OWNER, Table, WORDS, YS};
 use styles::{taken, third_x, third_y};
-use words::{broad, narrow, point_of};
+use words::point_of;
 
 // In the region from `at` on, the value at point p becomes v.
 fn put(table: &mut [u16], at: usize, p: usize, v: usize)
     requires { (0 < p) × (at + p ≤ length table.old) × (v < 65536) }
     ensures { table.new ≡ set table.old (at + pred p) v }
 {
-    table[at + (p - 1)] = narrow(v);
+    table[at + (p - 1)] = v as u16;
 }
 
 // The inner points of the run get the new point v as their owner, and their gaps count from it.
@@ -34,12 +34,10 @@ pub fn cover(e: &[u16], table: &mut [u16], p: Spot, v: u16)
 {
     let last = e.len() - 2;
     let mut far = 0;
-    let mut i = 0;
-    while i < last {
-        i += 1;
-        let q = point_of(e[i]) - 1;
-        far += broad(table[GAP + q]);
-        table[GAP + q] = narrow(far + p.s1 + GAP_OFFSET - p.dx);
+    for i in 0..last {
+        let q = point_of(e[i + 1]) - 1;
+        far += usize::from(table[GAP + q]);
+        table[GAP + q] = (far + p.s1 + GAP_OFFSET - p.dx) as u16;
         table[OWNER + q] = v;
     }
 }

@@ -12,7 +12,6 @@ ghost use Rattle.store_settling.specs.Bends.{Bendable, bend_in};
 use rules::{Bend, Place};
 use store_links::GAP_OFFSET;
 use store_tables::{DLS, DRS, GAP, HS, NEXT, OWNER, POINTS, YS};
-use words::{broad, narrow};
 
 // The first pass: boundary points along the links from point 1, which lies at 0.
 fn walk(x: &mut [u16; POINTS], next: &[u16], gap: &[u16], k: usize)
@@ -22,17 +21,15 @@ fn walk(x: &mut [u16; POINTS], next: &[u16], gap: &[u16], k: usize)
     x[0] = 0;
     let mut from = 0;
     let mut at = 0;
-    let mut left = k;
-    while 0 < left {
-        let p = broad(next[from]);
+    for _step in 0..k {
+        let p = usize::from(next[from]);
         if p == 0 {
             return;
         }
         let q = p - 1;
-        at += broad(gap[q]);
-        x[q] = narrow(at);
+        at += usize::from(gap[q]);
+        x[q] = at as u16;
         from = q;
-        left -= 1;
     }
 }
 
@@ -41,12 +38,12 @@ fn hang_one(x: &mut [u16; POINTS], gap: &[u16], owner: &[u16], p: usize)
     requires { (length x.old ≡ 1024) × (length gap.now ≡ 1024) × (length owner.now ≡ 1024) × (p < 1024) × HangsBy (get_or owner.now p 0) gap.now p x.old }
     ensures { x.new ≡ hang_by (get_or owner.now p 0) gap.now p x.old }
 {
-    let o = broad(owner[p]);
+    let o = usize::from(owner[p]);
     if o == 0 {
         return;
     }
-    let sum = broad(x[o - 1]) + broad(gap[p]);
-    x[p] = narrow(sum - GAP_OFFSET);
+    let sum = usize::from(x[o - 1]) + usize::from(gap[p]);
+    x[p] = (sum - GAP_OFFSET) as u16;
 }
 
 // The second pass: covered points from point k down to point 1, each after its owner.
@@ -54,9 +51,7 @@ fn hang(x: &mut [u16; POINTS], gap: &[u16], owner: &[u16], k: usize)
     requires { (length x.old ≡ 1024) × (length gap.now ≡ 1024) × (length owner.now ≡ 1024) × (k ≤ 1024) × Hangs gap.now owner.now k x.old }
     ensures { x.new ≡ hung gap.now owner.now k x.old }
 {
-    let mut p = k;
-    while 0 < p {
-        p -= 1;
+    for p in (0..k).rev() {
         hang_one(x, gap, owner, p);
     }
 }

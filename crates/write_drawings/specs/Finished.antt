@@ -9,7 +9,7 @@ use Rattle.store_links.specs.Arrays.{Arrays}
 use Rattle.store_laws.specs.Adding.{Holds}
 use Rattle.store_settling.specs.Bends.{Bendable}
 use Rattle.store_lines.specs.Lines.{line_in}
-use Rattle.rules.specs.Records.{head_size, place_size, line_size}
+use Rattle.rules.specs.Records.{place_size, line_size}
 use Rattle.write_drawings.specs.Lists.{bend_at}
 
 -- the arrays and numbers hold the finished drawing d, and x has its settled x
@@ -28,13 +28,13 @@ pub record Writable (x : List ℕ) (a : Arrays) (c : Counts) (buffer : List ℕ)
 
 -- ---- what the parts of writing ask
 
--- the places of the first k points, times s, fit, and their records have room behind the header
-pub record PointsReady (xs ys : List ℕ) (s k : ℕ) (buffer : List ℕ) : Type 0 where
+-- the places of the first k points, times s, fit, and their records have room at the place `at`
+pub record PointsReady (xs ys : List ℕ) (s k at : ℕ) (buffer : List ℕ) : Type 0 where
   pub long : (length xs ≡ 1024) × (length ys ≡ 1024)
   pub few : k ≤ 1024
   pub x : (i : ℕ) → i < k → s * get_or xs i 0 < 65536
   pub y : (i : ℕ) → i < k → s * get_or ys i 0 < 65536
-  pub room : head_size + place_size * k ≤ length buffer
+  pub room : at + place_size * k ≤ length buffer
 
 -- a line's bend is found, and times s it fits
 pub record LineFits (x : List ℕ) (a : Arrays) (s : ℕ) (l : Line) : Type 0 where

@@ -40,8 +40,8 @@ module _ {d : Drawing} {x : List ℕ} {a : Arrays} {c : Counts} (h : Finished d 
   y_fits : (i : ℕ) → i < c.k → c.s * get_or a.ys i 0 < 65536
   y_fits i b = let e = rw h.holds.stores.k at b in rw (y_is h i e) (scaled (place i e).1)
 
-  pub points-ready : (buffer : List ℕ) → head_size + place_size * c.k ≤ length buffer → PointsReady x a.ys c.s c.k buffer
-  points-ready buffer room =
+  pub points-ready : (at : ℕ) (buffer : List ℕ) → at + place_size * c.k ≤ length buffer → PointsReady x a.ys c.s c.k at buffer
+  points-ready at buffer room =
       record {
         long = (h.long, h.holds.sized.ys);
         few = few-points;

@@ -2,7 +2,7 @@
 use Rattle.std.specs.Prelude.{ℕ, ◌≤◌, ◌≡◌, List, length, take, drop}
 use Rattle.std.proofs.Common.{ap₂, sym, ◌∙◌, arith, le-ltb}
 use Rattle.std.proofs.Math.Seq.{take-append_seam}
-use Rattle.rules.specs.Refusals.{good}
+use Rattle.rules.specs.Refusals.{Answer, good}
 use Rattle.rules.specs.Styles.{drawing_length}
 use Rattle.rules.specs.Points.{Drawing as Plan}
 use Rattle.rules.specs.DrawingFile.{drawing_bytes, longest_drawing}
@@ -14,7 +14,6 @@ use Rattle.write_drawings.specs.Finished.{Finished, Writable}
 use Rattle.exchange.specs.Built.{Whole}
 use Rattle.exchange.proofs.Lengths.{whole_length}
 use Rattle.exchange.proofs.Longest.{whole_most}
-use Rattle.answers.specs.declared.Written.{Written}
 use Rattle.write_files.specs.Outputs.{Ended, Wrote}
 
 -- the length of a whole drawing's file, from the stored numbers
@@ -31,7 +30,7 @@ pub writable : {a : Arrays} {c : Counts} {x out : List ℕ} → Ended a c → Se
 writable e s room = record { d = e.d; finished = finish e.whole e.holds s; room = omega (arith, need_is e.whole e.holds) }
 
 -- a buffer for the longest drawing file begins with the drawing that was written into it
-pub begins : {d : Plan} {a : Arrays} {c : Counts} {before after : List ℕ} {r : Written} {need : ℕ} → Whole d → Holds d a c → length before ≡ longest_drawing → Wrote before (good (drawing_bytes d)) after r →
+pub begins : {d : Plan} {a : Arrays} {c : Counts} {before after : List ℕ} {r : Answer ℕ} {need : ℕ} → Whole d → Holds d a c → length before ≡ longest_drawing → Wrote before (good (drawing_bytes d)) after r →
     need ≡ drawing_length c.style c.n → take need after ≡ drawing_bytes d
 begins {d} {before = before} w h long t e =
     let n = e ∙ need_is w h in

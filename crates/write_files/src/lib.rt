@@ -2,8 +2,9 @@
 // For `panel` and `panel_asked`: it asks for the table of a drawing, a finished one where it does not test that.
 #![tactic(auto)]
 
-ghost use Rattle.std.specs.Prelude.{◌≡◌, ◌≤◌};
-ghost use Rattle.rules.specs.Refusals.{good};
+ghost use Rattle.std.specs.Prelude.{◌≡◌, ◌≤◌, length, ltb};
+ghost use Rattle.rules.specs.declared.Refusal.TheVariants.{Unfinished, OutputShort};
+ghost use Rattle.rules.specs.Refusals.{good, answer, refuse_if};
 ghost use Rattle.rules.specs.Styles.{drawing_length};
 ghost use Rattle.rules.specs.Points.{Drawing as Plan, fewest_points, most_points};
 ghost use Rattle.rules.specs.OrderFile.{write_order};
@@ -14,8 +15,7 @@ ghost use Rattle.exchange.specs.Built.{Reached, Whole};
 ghost use Rattle.write_files.specs.Outputs.{Wrote, Ended};
 ghost use Rattle.write_files.specs.Finishing.{whole_order, ReachedIn};
 
-use answers::Written;
-use rules::{Refusal, Style};
+use rules::{Answer, Refusal, Style};
 use store_links::Counts;
 use store_tables::{POINTS, Table};
 
@@ -30,52 +30,62 @@ pub fn drawing_length(style: Style, n: usize) -> usize
     }
 }
 
-// The drawing file of a finished drawing.
-pub fn put_drawing(out: &mut [u8], table: &Table, c: Counts) -> Written
+// 22 while points are missing.
+fn finished(c: Counts) -> Answer<()>
+    ensures { result ≡ answer (refuse_if (ltb c.k c.n) Unfinished 0) }
+{
+    if c.k < c.n {
+        return Err(Refusal::Unfinished.at(0));
+    }
+    Ok(())
+}
+
+// 24 where the buffer is shorter than the bytes that are needed.
+fn room(out: &[u8], need: usize) -> Answer<()>
+    ensures { result ≡ answer (refuse_if (ltb (length out.now) need) OutputShort 0) }
+{
+    if out.len() < need {
+        return Err(Refusal::OutputShort.at(0));
+    }
+    Ok(())
+}
+
+// The drawing file of a finished drawing; its length.
+pub fn put_drawing(out: &mut [u8], table: &Table, c: Counts) -> Answer<usize>
     requires { Ended (arrays_in table.now) c }
     ensures { (d : Plan) → Whole d → Holds d (arrays_in table.now) c → Wrote out.old (good (drawing_bytes d)) out.new result }
 {
-    let style = c.style;
-    let need = drawing_length(style, c.n);
-    if out.len() < need {
-        return Written::Refused(Refusal::OutputShort, 0);
-    }
+    let need = drawing_length(c.style, c.n);
+    room(out, need)?;
     let mut x = [0u16; POINTS];
     store_settling::settle(&mut x, table, c.k);
     write_drawings::write_drawing(out, &x, table, c);
-    Written::Bytes(need)
+    Ok(need)
 }
 
-// Its order file.
-pub fn put_order(out: &mut [u8], table: &Table, c: Counts) -> Written
+// Its order file; the length of that.
+pub fn put_order(out: &mut [u8], table: &Table, c: Counts) -> Answer<usize>
     requires { Ended (arrays_in table.now) c }
     ensures { (d : Plan) → Whole d → Holds d (arrays_in table.now) c → Wrote out.old (good (write_order d)) out.new result }
 {
-    let length = write_orders::order_length(c);
-    if out.len() < length {
-        return Written::Refused(Refusal::OutputShort, 0);
-    }
-    Written::Bytes(write_orders::write_order(out, table, c))
+    room(out, write_orders::order_length(c))?;
+    Ok(write_orders::write_order(out, table, c))
 }
 
 // The drawing file of a drawing, finished or not: 22 while it is unfinished.
-pub fn drawing_file(out: &mut [u8], table: &Table, c: Counts) -> Written
+pub fn drawing_file(out: &mut [u8], table: &Table, c: Counts) -> Answer<usize>
     requires { ReachedIn (arrays_in table.now) c }
     ensures { (q : Plan) → Reached q → Holds q (arrays_in table.now) c → Wrote out.old (write_drawing q) out.new result }
 {
-    if c.k < c.n {
-        return Written::Refused(Refusal::Unfinished, 0);
-    }
+    finished(c)?;
     put_drawing(out, table, c)
 }
 
 // Its order file, in the same manner.
-pub fn order_file(out: &mut [u8], table: &Table, counts: Counts) -> Written
+pub fn order_file(out: &mut [u8], table: &Table, counts: Counts) -> Answer<usize>
     requires { ReachedIn (arrays_in table.now) counts }
     ensures { (q : Plan) → Reached q → Holds q (arrays_in table.now) counts → Wrote out.old (whole_order q) out.new result }
 {
-    if counts.k < counts.n {
-        return Written::Refused(Refusal::Unfinished, 0);
-    }
+    finished(counts)?;
     put_order(out, table, counts)
 }

@@ -1,67 +1,31 @@
--- One turn of each loop, over plain lists.
-use Rattle.std.specs.Prelude.{if◌then◌else◌}
+-- Parts of the columns, and one turn of the loop over the points, over plain lists.
+use Rattle.std.specs.Prelude.{cond, if◌then◌else◌}
+use Rattle.std.specs.List.{prefix_len}
 use Prim.Native.Nat.{ℕ, zero, suc, ◌+◌, ◌-◌, ◌*◌, ◌<◌, ◌≤◌}
-use mathlib.Core.Path.{◌≡◌, refl, ap, ap₂, sym, ◌∙◌}
+use mathlib.Core.Path.{◌≡◌, refl, ap, ap₂, sym, subst, ◌∙◌}
 use mathlib.Core.Bool.{Bool, true, false}
-use mathlib.Core.List.{List, [], ◌∷◌, ◌++◌}
+use mathlib.Core.List.{List, [], ◌∷◌, ◌++◌, map}
 use native.Mathlib.Omega.{arith}
-use lib.ListN.{length, get_or, length-append}
+use lib.ListN.{length, get_or, take, drop, length-append}
 use lib.Dec.{eqb}
-use borrow.Author.Tests.{eq-eqb, ne_eqb}
-use Rattle.words.specs.Bytes.{with_word}
-use Rattle.words.specs.Writing.{Pasted, Ahead, ahead_all, ahead_as, ahead_word, ahead-part, ahead_none}
+use Rattle.std.proofs.lemmas.List.{length-take-le, length-drop}
+use Rattle.std.proofs.Math.Seq.{drop-cons}
+use Rattle.rules.specs.Records.{entries_mark}
+use Rattle.words.specs.Writing.{Pasted, Ahead, ahead_all, ahead_as, ahead-part, ahead_none}
 use Rattle.write_orders.specs.Writing.{again, count_of, entry_words, point_words, points_words}
-
--- one less is left
-left_less : {i left : ℕ} → i < left → left - i ≡ suc (left - (i + 1))
-left_less h = omega arith
-
--- the next place
-next_place : (from i : ℕ) → suc (from + i) ≡ from + (i + 1)
-next_place from i = omega arith
-
--- none is left
-none_left : {i left : ℕ} → left ≤ i → left - i ≡ 0
-none_left h = omega arith
 
 -- ---- counting
 
--- after `count` turns: those counted, and what the others come to
-pub record Counting (later : List ℕ) (p from left count : ℕ) : Type 0 where
-  pub within : count ≤ left
-  pub so_far : count + count_of later p (from + count) (left - count) ≡ count_of later p from left
-
-pub counting_start : (later : List ℕ) (p from left : ℕ) → Counting later p from left 0
-counting_start later p from left =
-    let a : from + 0 ≡ from = omega arith in
-    let b : left - 0 ≡ left = omega arith in
-    let e : count_of later p (from + 0) (left - 0) ≡ count_of later p from left = ap₂ (λ (x y : ℕ). count_of later p x y) a b in
-    record { within = omega arith; so_far = omega arith }
-
-module _ {later : List ℕ} {p from left count : ℕ} (h : Counting later p from left count) where
-  -- one more line of p
-  pub counting_more : count < left → get_or later (from + count) 0 ≡ p → Counting later p from left (count + 1)
-  unfolding count_of
-  counting_more b e =
-      let s : count_of later p (from + count) (left - count) ≡ suc (count_of later p (from + (count + 1)) (left - (count + 1))) =
-      ap (count_of later p (from + count)) (left_less b) ∙
-      rw (eq-eqb (get_or later (from + count) 0) p e) (ap (λ (k : ℕ). suc (count_of later p k (left - (count + 1)))) (next_place from count)) in
-      record { within = omega arith; so_far = omega (arith, h.so_far) }
-
-  -- a line of another point ends the count
-  pub counted_other : count < left → (get_or later (from + count) 0 ≡ p → ⊥) → count ≡ count_of later p from left
-  unfolding count_of
-  counted_other b e =
-      let s : count_of later p (from + count) (left - count) ≡ 0 =
-      ap (count_of later p (from + count)) (left_less b) ∙ rw (ne_eqb (get_or later (from + count) 0) p e) in
-      omega (arith, h.so_far)
-
-  -- so does the last line
-  pub counted_all : left ≤ count → count ≡ count_of later p from left
-  unfolding count_of
-  counted_all b =
-      let s : count_of later p (from + count) (left - count) ≡ 0 = ap (count_of later p (from + count)) (none_left b) in
-      omega (arith, h.so_far)
+-- the lines of p that come first in a part of the column
+pub count-part : (later : List ℕ) (p from left : ℕ) → from + left ≤ length later → prefix_len (λ (q : ℕ). eqb q p) (take left (drop from later)) ≡ count_of later p from left
+unfolding count_of
+count-part later p from zero h = refl
+count-part later p from (suc left) h =
+    rw (drop-cons later from 0 (omega arith)) (go (eqb (get_or later from 0) p) (count-part later p (suc from) left (omega arith)))
+  where
+    go : {m n : ℕ} (t : Bool) → m ≡ n → cond t (1 + m) 0 ≡ (if t then suc n else 0)
+    go true e = omega arith
+    go false e = refl
 
 -- no more than there are
 pub count_most : (later : List ℕ) (p from left : ℕ) → count_of later p from left ≤ left
@@ -80,46 +44,28 @@ unfolding entry_words
 length-entries words from zero = refl
 length-entries words from (suc c) = ap suc (length-entries words (suc from) c)
 
--- the next entry, and the others
-pub entry_next : (words : List ℕ) (from c i : ℕ) → i < c →
-    entry_words words (from + i) (c - i) ≡ again (get_or words (from + i) 0) ∷ entry_words words (from + (i + 1)) (c - (i + 1))
+-- those of a part of the column
+entries-part : (words : List ℕ) (from c : ℕ) → from + c ≤ length words → map again (take c (drop from words)) ≡ entry_words words from c
 unfolding entry_words
-entry_next words from c i h =
-    ap (entry_words words (from + i)) (left_less h) ∙
-    ap (λ (k : ℕ). again (get_or words (from + i) 0) ∷ entry_words words k (c - (i + 1))) (next_place from i)
+entries-part words from zero h = refl
+entries-part words from (suc c) h =
+    rw (drop-cons words from 0 (omega arith)) (ap (λ (l : List ℕ). again (get_or words from 0) ∷ l) (entries-part words (suc from) c (omega arith)))
 
--- none is left
-pub entry_last : (words : List ℕ) (from c i : ℕ) → c ≤ i → entry_words words (from + i) (c - i) ≡ []
-unfolding entry_words
-entry_last words from c i h = ap (entry_words words (from + i)) (none_left h)
+-- the lines from `from` to `from + count`, cut out of the column
+abbrev pub part : List ℕ → ℕ → ℕ → List ℕ
+part words from count = take (from + count - from) (drop from words)
 
--- i entries are written, the others are ahead
-pub record Entering (out₀ : List ℕ) (at : ℕ) (words : List ℕ) (from count : ℕ) (out : List ℕ) (place i : ℕ) : Type 0 where
-  pub within : i ≤ count
-  pub ahead : Ahead out₀ at (entry_words words from count) out place (entry_words words (from + i) (count - i))
+part_is : (words : List ℕ) (from count : ℕ) → part words from count ≡ take count (drop from words)
+part_is words from count = let e : from + count - from ≡ count = omega arith in ap (λ (n : ℕ). take n (drop from words)) e
 
-pub entering_start : (out : List ℕ) (at : ℕ) (words : List ℕ) (from count : ℕ) → Entering out at words from count out at 0
-entering_start out at words from count =
-    let a : from ≡ from + 0 = omega arith in
-    let b : count ≡ count - 0 = omega arith in
-    let e : entry_words words from count ≡ entry_words words (from + 0) (count - 0) = ap₂ (λ (x y : ℕ). entry_words words x y) a b in
-    record { within = omega arith; ahead = ahead_as e (ahead_all out at (entry_words words from count)) }
+pub length-part : (words : List ℕ) (from count : ℕ) → from + count ≤ length words → length (part words from count) ≡ count
+length-part words from count h = ap length (part_is words from count) ∙ length-take-le count (drop from words) (omega (arith, length-drop from words))
 
-module _ {out₀ : List ℕ} {at : ℕ} {words : List ℕ} {from count : ℕ} {out : List ℕ} {place i : ℕ} (h : Entering out₀ at words from count out place i) where
-  -- the next entry has room
-  pub entering_room : i < count → at + 2 * count ≤ length out₀ → place + 1 < length out
-  entering_room b r =
-      omega (arith, h.ahead.place, h.ahead.long, length-entries words from count, length-entries words (from + i) (count - i))
-
-  -- and is written
-  pub entering_more : {v : ℕ} {out' : List ℕ} → i < count → v ≡ again (get_or words (from + i) 0) → out' ≡ with_word out place v →
-      Entering out₀ at words from count out' (place + 2) (i + 1)
-  entering_more b e o =
-      record { within = omega arith; ahead = ahead_word (ahead_as (entry_next words from count i b) h.ahead) (o ∙ ap (with_word out place) e) }
-
-  -- all are written
-  pub entered : count ≤ i → Pasted out₀ at (entry_words words from count) out place
-  entered b = ahead_none (ahead_as (entry_last words from count i b) h.ahead)
+-- their record
+record-part : (words : List ℕ) (from count : ℕ) → from + count ≤ length words →
+    ◌≡◌ {A = List ℕ} (entries_mark ∷ length (part words from count) ∷ map again (part words from count)) (point_words words from count)
+record-part words from count h =
+    ap₂ (λ (n : ℕ) (l : List ℕ). entries_mark ∷ n ∷ l) (length-part words from count h) (ap (map again) (part_is words from count) ∙ entries-part words from count h)
 
 -- ---- the records of the points
 
@@ -156,29 +102,36 @@ pointing_start out at words later n lines =
     record { within = omega arith; lines_left = omega arith; ahead = ahead_as e (ahead_all out at (points_words words later lines n 1 0)) }
 
 module _ {out₀ : List ℕ} {at : ℕ} {words later : List ℕ} {n lines : ℕ} {out : List ℕ} {place from p count : ℕ}
-    (h : Pointing out₀ at words later n lines out place from p) (b : p ≤ n) (c : count ≡ count_of later p from (lines - from)) where
+    (h : Pointing out₀ at words later n lines out place from p) (b : p ≤ n) (long : (lines ≤ length words) × (lines ≤ length later))
+    (c : count ≡ prefix_len (λ (q : ℕ). eqb q p) (take (lines - from) (drop from later))) where
+  -- its lines
+  own : count ≡ count_of later p from (lines - from)
+  own = c ∙ count-part later p from (lines - from) (omega (arith, h.lines_left))
+
+  -- are there
+  pub pointing_lines : from + count ≤ lines
+  pointing_lines = omega (arith, own, h.lines_left, count_most later p from (lines - from))
+
   -- what is ahead at the next point
   next_point : Ahead out₀ at (points_words words later lines n 1 0) out place (point_words words from count ++ points_words words later lines (n + 1 - (p + 1)) (p + 1) (from + count))
   next_point =
       ahead_as
       (point_next words later lines n p from b ∙
-      ap (λ (k : ℕ). point_words words from k ++ points_words words later lines (n + 1 - (p + 1)) (p + 1) (from + k)) (sym c))
+      ap (λ (k : ℕ). point_words words from k ++ points_words words later lines (n + 1 - (p + 1)) (p + 1) (from + k)) (sym own))
       h.ahead
 
-  -- its lines are there
-  pub pointing_lines : from + count ≤ lines
-  pointing_lines = omega (arith, h.lines_left, count_most later p from (lines - from))
-
-  -- and its record has room
+  -- its record has room
   pub pointing_room : at + 2 * length (points_words words later lines n 1 0) ≤ length out₀ → place + 4 + 2 * count ≤ length out
   pointing_room r =
       let rest = points_words words later lines (n + 1 - (p + 1)) (p + 1) (from + count) in
       omega (arith, next_point.place, h.ahead.long, length-append (point_words words from count) rest, length-entries words from count)
 
   -- it is written
-  pub pointing_more : {out' : List ℕ} {end : ℕ} → Pasted out place (point_words words from count) out' end →
+  pub pointing_more : {out' : List ℕ} {end : ℕ} → Pasted out place (entries_mark ∷ length (part words from count) ∷ map again (part words from count)) out' end →
       Pointing out₀ at words later n lines out' end (from + count) (p + 1)
-  pointing_more t = record { within = omega arith; lines_left = pointing_lines; ahead = ahead-part next_point t }
+  pointing_more {out'} {end} t =
+      let w : Pasted out place (point_words words from count) out' end = subst (λ (l : List ℕ). Pasted out place l out' end) (record-part words from count (omega (arith, pointing_lines))) t in
+      record { within = omega arith; lines_left = pointing_lines; ahead = ahead-part next_point w }
 
 -- all are written
 pub pointed : {out₀ : List ℕ} {at : ℕ} {words later : List ℕ} {n lines : ℕ} {out : List ℕ} {place from p : ℕ} →

@@ -11,7 +11,7 @@ use Rattle.read_drawings.proofs.add_groups.Given as goal
 
 abbrev pub invariant-loop-counts : goal.invariant-loop-counts
 invariant-loop-counts l =
-    (length l.e ≡ 3072) × ((d : Drawing) → Holds d (arrays_in l.initial.table) l.initial.counts → Going l.style l.f l.base l.total (rest_groups l.style l.f l.base l.total l.initial.counts d) (arrays_in l.table) l.counts)
+    (length l.e ≡ 3072) × ((d : Drawing) → Holds d (arrays_in l.initial.table) l.initial.counts → Going l.style l.lines.file.now l.lines.at l.total (rest_groups l.style l.lines.file.now l.lines.at l.total l.initial.counts d) (arrays_in l.table) l.counts)
 
 abbrev pub decreases-loop-counts : goal.decreases-loop-counts
 decreases-loop-counts l = l.counts.n - l.counts.k

@@ -25,33 +25,40 @@ module _ (f : List ℕ) (from count : ℕ) (there : from + 2 * count ≤ length 
   entry_is i h w is = is ∙ sym (words_in_lem f count from there i h)
 
 pub returns-then-c : goal.returns-then-c
-returns-then-c c = let a = c.args in λ d h. long-finished h (words a.f.now a.from a.count c.requires.0.there) (many a.f.now a.from a.count c.requires.0.there c.requires.0.many) c.if-c.true
+returns-then-c c =
+    let f = c.args.entries.now.file.now in
+    let at = c.args.entries.now.at in
+    λ d h. long-finished h (words f at c.args.count c.requires.0.there) (many f at c.args.count c.requires.0.there c.requires.0.many) c.if-c.true
 
-pub judge_entry-said-requires : goal.judge_entry-said-requires
-judge_entry-said-requires c = (region-long owner_r c.args.table.now (omega arith), omega arith)
+pub judge_entry-requires : goal.judge_entry-requires
+judge_entry-requires c = (region-long owner_r c.args.table.now (omega arith), omega arith)
 
-pub returns-in-Refused : goal.returns-in-Refused
+pub returns-in-Err : goal.returns-in-Err
 unfolding arrays_in
-returns-in-Refused c =
-    let a = c.args in
+returns-in-Err c =
+    let f = c.args.entries.now.file.now in
+    let at = c.args.entries.now.at in
+    let n = c.args.count in
     let t = c.requires.0.there in
     let i = c.loop-i.i in
-    λ d h. long-entry h (words a.f.now a.from a.count t) (many a.f.now a.from a.count t c.requires.0.many) c.if-c.false _ _
-    (c.loop-i.invariant.1 ∙ entry-refused (region a.table.now owner_r) (words a.f.now a.from a.count t) a.c.k i _ (more a.f.now a.from a.count t i c.loop-i-test.true) (entry_is a.f.now a.from a.count t i c.loop-i-test.true _ c.word_at-e.ensures) c.judge_entry-said.ensures _ _ c.in-Refused.is)
+    λ d h. long-entry h (words f at n t) (many f at n t c.requires.0.many) c.if-c.false _ _
+    (c.loop-i.invariant ∙ entry-refused (region c.args.table.now owner_r) (words f at n t) c.args.c.k i _ (more f at n t i c.loop-i-test.true) (entry_is f at n t i c.loop-i-test.true _ c.word_at-e.ensures) c.judge_entry.ensures _ c.in-Err.is)
 
 pub loop-i-preserved : goal.loop-i-preserved
 loop-i-preserved c =
-    let a = c.args in
+    let f = c.args.entries.now.file.now in
+    let at = c.args.entries.now.at in
+    let n = c.args.count in
     let t = c.requires.0.there in
-    let i = c.loop-i.i in (
-      omega arith,
-      c.loop-i.invariant.1 ∙ entry_passed (region a.table.now owner_r) (words a.f.now a.from a.count t) a.c.k i _ (more a.f.now a.from a.count t i c.loop-i-test.true) (entry_is a.f.now a.from a.count t i c.loop-i-test.true _ c.word_at-e.ensures) c.judge_entry-said.ensures c.in_default.is,
-    )
+    let i = c.loop-i.i in
+    c.loop-i.invariant ∙ entry_passed (region c.args.table.now owner_r) (words f at n t) c.args.c.k i _ (more f at n t i c.loop-i-test.true) (entry_is f at n t i c.loop-i-test.true _ c.word_at-e.ensures) c.judge_entry.ensures c.in_default.is
 
 pub returns : goal.returns
 unfolding arrays_in
 returns c =
-    let a = c.args in
+    let f = c.args.entries.now.file.now in
+    let at = c.args.entries.now.at in
+    let n = c.args.count in
     let t = c.requires.0.there in
-    λ d h. long-run h (words a.f.now a.from a.count t) (many a.f.now a.from a.count t c.requires.0.many) c.if-c.false
-    (c.loop-i.invariant.1 ∙ rw (drop_of_length-le (words a.f.now a.from a.count t) {i = c.loop-i.i} (rw (words_count a.f.now a.from a.count t) c.loop-i-test.false)))
+    λ d h. long-run h (words f at n t) (many f at n t c.requires.0.many) c.if-c.false
+    (c.loop-i.invariant ∙ rw (drop_of_length-le (words f at n t) {i = c.loop-i.i} (rw (words_count f at n t) c.loop-i-test.false)))

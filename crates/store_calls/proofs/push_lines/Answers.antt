@@ -1,5 +1,5 @@
 -- One line more is stored.
-use Rattle.std.proofs.Common.{ap, ◌∙◌, length-set, arith}
+use Rattle.std.proofs.Common.{ap, ◌∙◌, ◌+◌, length-set, arith}
 use Rattle.rules.specs.Styles.{bent}
 use Rattle.store_links.specs.Codes.{bend_code}
 use Rattle.store_tables.specs.Tables.{arrays_in}
@@ -10,7 +10,6 @@ pub loop-i-preserved : goal.loop-i-preserved
 loop-i-preserved c =
     let l = c.loop-i in
     let a = c.args in (
-      omega arith,
-      simp length-set l.invariant.1,
-      line_more l.table (arrays_in a.table.now) a.e.now a.c.lines c.narrow-new.result l.i _ _ l.invariant.2 (omega (arith, c.requires.0.lines)) (c.line_code.ensures ∙ ap (λ b. bend_code (bent a.c.style b)) c.new_bend.ensures),
+      simp length-set l.invariant.0,
+      line_more l.table (arrays_in a.table.now) a.e.now a.c.lines (c.args.c.k + 1) l.i _ _ l.invariant.1 (omega (arith, c.requires.0.lines)) (c.line_code.ensures ∙ ap (λ b. bend_code (bent a.c.style b)) c.new_bend.ensures),
     )

@@ -1,5 +1,4 @@
 -- `store_points::push_lines` meets its contract: after i turns the lines of the entries 0 to i - 1 are there.
-use Prim.Native.Nat.{◌-◌, ◌≤◌}
 use mathlib.Core.Path.{◌≡◌}
 use lib.ListN.{length}
 use Rattle.store_links.specs.Storing.{code_of}
@@ -8,7 +7,4 @@ use Rattle.store_calls.specs.Stages.{lined}
 use Rattle.store_calls.proofs.push_lines.Given as goal
 
 abbrev pub invariant-loop-i : goal.invariant-loop-i
-invariant-loop-i l = (l.i ≤ length l.e) × (length l.table ≡ length l.initial.table) × Keeps l.table (lined (arrays_in l.initial.table) l.e l.at l.new (code_of l.style l.rights l.lefts l.last l.from) l.i)
-
-abbrev pub decreases-loop-i : goal.decreases-loop-i
-decreases-loop-i l = length l.e - l.i
+invariant-loop-i l = (length l.table ≡ length l.initial.table) × Keeps l.table (lined (arrays_in l.initial.table) l.e l.at l.new (code_of l.style l.rights l.lefts l.last l.from) l.i)

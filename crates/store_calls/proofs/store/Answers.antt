@@ -1,5 +1,5 @@
 -- Each helper makes its part of `with_point`.
-use Rattle.std.proofs.Common.{ℕ, ◌+◌, ◌-◌, ◌≡◌, ◌≤◌, ap, ◌∙◌, List, length, arith}
+use Rattle.std.proofs.Common.{refl, ℕ, ◌+◌, ◌-◌, ◌≡◌, ◌≤◌, ap, ◌∙◌, List, length, arith}
 use borrow.Rule.Slice.PartMut.{same_len_mid}
 use Rattle.rules.specs.Styles.{taken}
 use Rattle.store_links.specs.declared.Spot.{Spot}
@@ -76,21 +76,21 @@ link-requires c = (linkable (record { call = c.requires.0; left = c.point_of-wl.
 
 pub grow_ports-rights-requires : goal.grow_ports-rights-requires
 grow_ports-rights-requires c =
-    let l = tie _ c.cover.new.table c.link.new.table _ _ _ c.narrow-new.result _ _ c.requires.0 c.point_of-wl.ensures c.point_of-wr.ensures (omega arith) c.cover.ensures c.link.ensures in
+    let l = tie _ c.cover.new.table c.link.new.table _ _ _ (c.args.c.k + 1) _ _ c.requires.0 c.point_of-wl.ensures c.point_of-wr.ensures (omega arith) c.cover.ensures c.link.ensures in
     (growable_right l, region-long drs_r c.link.new.table (omega arith))
 
 pub grow_ports-lefts-requires : goal.grow_ports-lefts-requires
 grow_ports-lefts-requires c =
-    let l = tie _ c.cover.new.table c.link.new.table _ _ _ c.narrow-new.result _ _ c.requires.0 c.point_of-wl.ensures c.point_of-wr.ensures (omega arith) c.cover.ensures c.link.ensures in
+    let l = tie _ c.cover.new.table c.link.new.table _ _ _ (c.args.c.k + 1) _ _ c.requires.0 c.point_of-wl.ensures c.point_of-wr.ensures (omega arith) c.cover.ensures c.link.ensures in
     (growable_left l c.grow_ports-rights.auto.ports c.grow_ports-rights.ensures.grown, region-long dls_r (patched (from drs_r) (size drs_r) c.link.new.table c.grow_ports-rights.new.ports) (full_left l _ c.grow_ports-rights.auto.ports))
 
 pub push_lines-requires : goal.push_lines-requires
 push_lines-requires c =
-    let l = tie _ c.cover.new.table c.link.new.table _ _ _ c.narrow-new.result _ _ c.requires.0 c.point_of-wl.ensures c.point_of-wr.ensures (omega arith) c.cover.ensures c.link.ensures in
+    let l = tie _ c.cover.new.table c.link.new.table _ _ _ (c.args.c.k + 1) _ _ c.requires.0 c.point_of-wl.ensures c.point_of-wr.ensures (omega arith) c.cover.ensures c.link.ensures in
     (pushable l.run (rights l c.grow_ports-rights.ensures.index) (lefts l c.grow_ports-rights.auto.ports c.grow_ports-rights.ensures.grown c.grow_ports-lefts.ensures.index), full_after dls_r _ _ c.grow_ports-lefts.auto.ports (full_right l _ c.grow_ports-rights.auto.ports))
 
 pub returns : goal.returns
 returns c =
-    let l = tie _ c.cover.new.table c.link.new.table _ _ _ c.narrow-new.result _ _ c.requires.0 c.point_of-wl.ensures c.point_of-wr.ensures (omega arith) c.cover.ensures c.link.ensures in
+    let l = tie _ c.cover.new.table c.link.new.table _ _ _ (c.args.c.k + 1) _ _ c.requires.0 c.point_of-wl.ensures c.point_of-wr.ensures (omega arith) c.cover.ensures c.link.ensures in
     let k = lefted l c.grow_ports-rights.auto.ports c.grow_ports-rights.ensures.grown c.grow_ports-lefts.auto.ports c.grow_ports-lefts.ensures.grown in
-    c.push_lines.ensures ∙ rw k.is (whole l.run (rights l c.grow_ports-rights.ensures.index) (lefts l c.grow_ports-rights.auto.ports c.grow_ports-rights.ensures.grown c.grow_ports-lefts.ensures.index) c.args.from c.narrow-new.ensures)
+    c.push_lines.ensures ∙ rw k.is (whole l.run (rights l c.grow_ports-rights.ensures.index) (lefts l c.grow_ports-rights.auto.ports c.grow_ports-rights.ensures.grown c.grow_ports-lefts.ensures.index) c.args.from refl)

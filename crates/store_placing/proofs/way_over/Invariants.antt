@@ -1,11 +1,8 @@
 -- `store_placing::way_over`: after i turns `far` is the way to entry i.
 use mathlib.Core.Path.{◌≡◌}
-use Prim.Native.Nat.{◌≤◌, ◌*◌, ◌-◌}
+use Prim.Native.Nat.{◌≤◌, ◌*◌}
 use Rattle.store_links.specs.Placing.{way}
 use Rattle.store_placing.proofs.way_over.Given as goal
 
 abbrev pub invariant-loop-i : goal.invariant-loop-i
-invariant-loop-i l = (l.i ≤ l.last) × (l.far ≡ way l.gap l.e l.i) × (l.far ≤ 65535 * l.i)
-
-abbrev pub decreases-loop-i : goal.decreases-loop-i
-decreases-loop-i l = l.last - l.i
+invariant-loop-i l = (l.far ≡ way l.gap l.e l.i) × (l.far ≤ 65535 * l.i)

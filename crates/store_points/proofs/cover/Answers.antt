@@ -1,5 +1,5 @@
 -- The goals of a turn, from what is known once the turn's point is read.
-use Rattle.std.proofs.Common.{ℕ, ◌+◌, ◌-◌, ◌<◌, ◌≡◌, refl, ap, ◌∙◌, zero-le, List, length, get_or, length-set, arith}
+use Rattle.std.proofs.Common.{ℕ, ◌+◌, ◌-◌, ◌<◌, ◌≡◌, refl, ap, ◌∙◌, List, length, get_or, length-set, arith}
 use Rattle.store_links.specs.declared.Spot.{Spot}
 use Rattle.store_links.specs.Arrays.{Arrays, gap_offset}
 use Rattle.store_links.specs.Placing.{way, entry_point, inner_count}
@@ -25,39 +25,39 @@ near a v w k e = omega (arith, reached a v w k e, turn_near w)
 
 pub loop-i-init : goal.loop-i-init
 unfolding covered_gaps covered_owners
-loop-i-init c = (zero-le, refl, refl, record { is = refl })
+loop-i-init c = (refl, refl, record { is = refl })
 
 pub overflow_sub-q : goal.overflow_sub-q
-overflow_sub-q c = omega (arith, turn_low (turn c.requires.0 (omega arith) c.loop-i.invariant.2 c.point_of-q.ensures))
+overflow_sub-q c = omega (arith, turn_low (turn c.requires.0 (omega arith) c.loop-i.invariant.1 c.point_of-q.ensures))
 
 pub bounds-table-q : goal.bounds-table-q
-bounds-table-q c = omega (arith, turn-index (turn c.requires.0 (omega arith) c.loop-i.invariant.2 c.point_of-q.ensures))
+bounds-table-q c = omega (arith, turn-index (turn c.requires.0 (omega arith) c.loop-i.invariant.1 c.point_of-q.ensures))
 
 pub overflow_add-far : goal.overflow_add-far
-overflow_add-far c = omega (arith, near (arrays_in c.args.table.now) c.args.v (turn c.requires.0 (omega arith) c.loop-i.invariant.2 c.point_of-q.ensures) c.loop-i.invariant.3 c.broad-far.ensures)
+overflow_add-far c = omega (arith, near (arrays_in c.args.table.now) c.args.v (turn c.requires.0 (omega arith) c.loop-i.invariant.1 c.point_of-q.ensures) c.loop-i.invariant.2 c.from-far.ensures)
 
-pub overflow_add-far-in-loop-i : goal.overflow_add-far-in-loop-i
-overflow_add-far-in-loop-i c = omega (arith, near (arrays_in c.args.table.now) c.args.v (turn c.requires.0 (omega arith) c.loop-i.invariant.2 c.point_of-q.ensures) c.loop-i.invariant.3 c.broad-far.ensures)
+pub overflow_add-table : goal.overflow_add-table
+overflow_add-table c = omega (arith, near (arrays_in c.args.table.now) c.args.v (turn c.requires.0 (omega arith) c.loop-i.invariant.1 c.point_of-q.ensures) c.loop-i.invariant.2 c.from-far.ensures)
 
-pub overflow_add-far-in-loop-i-2 : goal.overflow_add-far-in-loop-i-2
-overflow_add-far-in-loop-i-2 c = omega (arith, near (arrays_in c.args.table.now) c.args.v (turn c.requires.0 (omega arith) c.loop-i.invariant.2 c.point_of-q.ensures) c.loop-i.invariant.3 c.broad-far.ensures)
+pub overflow_add-table-in-loop-i : goal.overflow_add-table-in-loop-i
+overflow_add-table-in-loop-i c = omega (arith, near (arrays_in c.args.table.now) c.args.v (turn c.requires.0 (omega arith) c.loop-i.invariant.1 c.point_of-q.ensures) c.loop-i.invariant.2 c.from-far.ensures)
 
-pub narrow-requires : goal.narrow-requires
-narrow-requires c = omega (arith, near (arrays_in c.args.table.now) c.args.v (turn c.requires.0 (omega arith) c.loop-i.invariant.2 c.point_of-q.ensures) c.loop-i.invariant.3 c.broad-far.ensures)
+pub overflow_cast-table : goal.overflow_cast-table
+overflow_cast-table c = omega (arith, near (arrays_in c.args.table.now) c.args.v (turn c.requires.0 (omega arith) c.loop-i.invariant.1 c.point_of-q.ensures) c.loop-i.invariant.2 c.from-far.ensures)
 
 pub bounds-table-q-in-loop-i : goal.bounds-table-q-in-loop-i
-bounds-table-q-in-loop-i c = omega (arith, turn-index (turn c.requires.0 (omega arith) c.loop-i.invariant.2 c.point_of-q.ensures))
+bounds-table-q-in-loop-i c = omega (arith, turn-index (turn c.requires.0 (omega arith) c.loop-i.invariant.1 c.point_of-q.ensures))
 
 pub bounds-table-q-in-loop-i-2 : goal.bounds-table-q-in-loop-i-2
-bounds-table-q-in-loop-i-2 c = simp length-set (omega (arith, turn-index (turn c.requires.0 (omega arith) c.loop-i.invariant.2 c.point_of-q.ensures)))
+bounds-table-q-in-loop-i-2 c = simp length-set (omega (arith, turn-index (turn c.requires.0 (omega arith) c.loop-i.invariant.1 c.point_of-q.ensures)))
 
 pub loop-i-preserved : goal.loop-i-preserved
 loop-i-preserved c =
-    let t = turn c.requires.0 (omega arith) c.loop-i.invariant.2 c.point_of-q.ensures in
-    let r = reached (arrays_in c.args.table.now) c.args.v t c.loop-i.invariant.3 c.broad-far.ensures in
-    (omega arith, simp length-set c.loop-i.invariant.1, r, cover_more (arrays_in c.args.table.now) c.args.v t c.loop-i.invariant.3 (c.narrow.ensures ∙ rw r))
+    let t = turn c.requires.0 (omega arith) c.loop-i.invariant.1 c.point_of-q.ensures in
+    let r = reached (arrays_in c.args.table.now) c.args.v t c.loop-i.invariant.2 c.from-far.ensures in
+    (simp length-set c.loop-i.invariant.0, r, cover_more (arrays_in c.args.table.now) c.args.v t c.loop-i.invariant.2 (rw r))
 
 pub returns : goal.returns
 returns c =
     let n : c.loop-i.i ≡ length c.args.e.now - 2 = omega arith in
-    c.loop-i.invariant.3.is ∙ rw n
+    c.loop-i.invariant.2.is ∙ rw n

@@ -1,5 +1,4 @@
 -- `store_points::cover` meets its contract: after i turns the entries 1 to i are covered.
-use Prim.Native.Nat.{◌-◌, ◌≤◌}
 use mathlib.Core.Path.{◌≡◌}
 use lib.ListN.{length}
 use Rattle.store_links.specs.Placing.{way}
@@ -8,7 +7,4 @@ use Rattle.store_points.specs.Stages.{covered}
 use Rattle.store_points.proofs.cover.Given as goal
 
 abbrev pub invariant-loop-i : goal.invariant-loop-i
-invariant-loop-i l = (l.i ≤ l.last) × (length l.table ≡ length l.initial.table) × (l.far ≡ way (arrays_in l.initial.table).gap l.e l.i) × Keeps l.table (covered (arrays_in l.initial.table) l.e l.p l.v l.i)
-
-abbrev pub decreases-loop-i : goal.decreases-loop-i
-decreases-loop-i l = l.last - l.i
+invariant-loop-i l = (length l.table ≡ length l.initial.table) × (l.far ≡ way (arrays_in l.initial.table).gap l.e l.i) × Keeps l.table (covered (arrays_in l.initial.table) l.e l.p l.v l.i)

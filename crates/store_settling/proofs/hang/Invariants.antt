@@ -1,10 +1,8 @@
 -- `hang` meets its contract: what is left to do with the x of now gives what all gives with the x at entry.
-use mathlib.Core.Path.{◌≡◌, refl, sym, ◌∙◌}
-use Prim.Native.Nat.{suc, ◌-◌, ◌≤◌}
-use native.Mathlib.Omega.{arith}
-use lib.ListN.{length, get_or}
-use borrow.Author.Rules.{rules}
-use Rattle.store_settling.specs.Hang.{hang_by, HangsBy, hung, Hangs, hung_none, hung-go, hangs-go, length-hang_by}
+use mathlib.Core.Path.{◌≡◌}
+use Prim.Native.Nat.{◌≤◌}
+use lib.ListN.{length}
+use Rattle.store_settling.specs.Hang.{hung, Hangs}
 use Rattle.store_settling.proofs.hang.Given as goal
 
 abbrev pub invariant-loop-p : goal.invariant-loop-p

@@ -1,7 +1,8 @@
--- `largest` meets its contract: after i turns `top` is the largest of the first i.
+-- `largest`: one number more.
 use Rattle.std.proofs.Common.{arith}
+use Rattle.std.proofs.lemmas.Grind.{common_steps}
 use Rattle.write_drawings.proofs.Turns.{highest_more}
 use Rattle.write_drawings.proofs.largest.Goals as goal
 
-pub loop-i-preserved : goal.loop-i-preserved
-loop-i-preserved c = let h = highest_more c.args.ys.now c.loop-i.i (omega arith) in (omega arith, grind (arith, h))
+pub loop-y-preserved : goal.loop-y-preserved
+loop-y-preserved c = let h = highest_more c.args.ys.now c.loop-y.y-index (omega arith) in grind (arith, common_steps, h)

@@ -1,6 +1,10 @@
--- `order_file` meets its contract.
+-- `order_file`: a drawing with all its points is whole.
+use Rattle.std.proofs.Common.{◌∙◌, sym}
 use Rattle.write_files.specs.Finishing.{late, whole_late}
+use Rattle.write_files.specs.Outputs.{no_less}
 use Rattle.write_files.proofs.order_file.Goals as goal
 
 pub returns : goal.returns
-returns c = λ q r t. rw (late t _ c.if-counts.false) (c.put_order.ensures _ (whole_late t r c.if-counts.false) t)
+returns c = λ q r t.
+    let all = no_less _ _ _ _ (sym c.finished.ensures ∙ c.in_ok-finished.was) in
+    rw (late t _ all) (c.put_order.ensures _ (whole_late t r all) t)

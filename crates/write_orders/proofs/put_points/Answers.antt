@@ -1,29 +1,32 @@
--- `write_orders::put_points` meets its contract: the points below p are written, the others are ahead.
-use native.Mathlib.Omega.{arith}
-use Rattle.write_orders.proofs.Turns.{pointing_lines, pointing_room, pointing_more, pointed}
+-- `put_points`: one point more.
+use Rattle.std.proofs.Common.{◌+◌, ◌≤◌, length, arith}
+use Rattle.write_orders.proofs.Turns.{pointing_start, length-part, pointing_lines, pointing_room, pointing_more, pointed}
 use Rattle.write_orders.proofs.put_points.Goals as goal
 
-pub put_point-place-requires : goal.put_point-place-requires
-put_point-place-requires c =
-    let d = c in
-    let b = d in
-    let a = b in
-    let h = b.loop-p.invariant in
-    let w = b.loop-p-test.true in
-    let e = d.count_lines-count.ensures in
-    (a.requires.0, omega (arith, pointing_lines h w e, a.requires.3), pointing_room h w e a.requires.4)
+pub loop-p-init : goal.loop-p-init
+loop-p-init c = pointing_start _ _ _ _ _ _
 
 pub overflow_add-from : goal.overflow_add-from
-overflow_add-from c =
-    let d = c in
-    let b = d in
-    omega (arith, pointing_lines b.loop-p.invariant b.loop-p-test.true d.count_lines-count.ensures, b.requires.3)
+overflow_add-from c = omega (arith, pointing_lines c.loop-p.invariant c.loop-p-test.true (omega arith, omega arith) c.count_lines-count.ensures)
+
+pub slice_bounds-put_point-end : goal.slice_bounds-put_point-end
+slice_bounds-put_point-end c =
+    let l = pointing_lines c.loop-p.invariant c.loop-p-test.true (omega arith, omega arith) c.count_lines-count.ensures in
+    let within : c.loop-p.from + c.count_lines-count.result ≤ length c.args.words.now = omega arith in
+    within
+
+pub put_point-end-requires : goal.put_point-end-requires
+put_point-end-requires c =
+    let long : (c.args.lines ≤ length c.args.words.now) × (c.args.lines ≤ length c.args.later.now) = (omega arith, omega arith) in
+    let l = pointing_lines c.loop-p.invariant c.loop-p-test.true long c.count_lines-count.ensures in
+    let p = length-part c.args.words.now c.loop-p.from c.count_lines-count.result (omega arith) in
+    (omega arith, omega (arith, pointing_room c.loop-p.invariant c.loop-p-test.true long c.count_lines-count.ensures c.requires.4))
 
 pub loop-p-preserved : goal.loop-p-preserved
-loop-p-preserved c =
-    let d = c in
-    let b = d in
-    pointing_more b.loop-p.invariant b.loop-p-test.true d.count_lines-count.ensures c.put_point-place.ensures
+loop-p-preserved c = pointing_more c.loop-p.invariant c.loop-p-test.true (omega arith, omega arith) c.count_lines-count.ensures c.put_point-end.ensures
 
 pub returns : goal.returns
 returns c = pointed c.loop-p.invariant c.loop-p-test.false
+
+pub returns-2 : goal.returns-2
+returns-2 c = pointed (pointing_more c.loop-p.invariant c.loop-p-test.true (omega arith, omega arith) c.count_lines-count.ensures c.put_point-end.ensures) (omega arith)
