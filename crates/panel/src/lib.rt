@@ -15,33 +15,24 @@ ghost use Rattle.drawing.specs.Opens.{Gives};
 ghost use Rattle.write_files.specs.Outputs.{Wrote, Ended};
 ghost use Rattle.write_files.specs.Finishing.{whole_order};
 
-use answers::Written;
-use drawing::{Done, Drawing};
+use drawing::Drawing;
 use rules::{Answer, LONGEST_DRAWING, Style};
 use store_links::Counts;
 use store_tables::{END, Table};
 
-// The drawing of an order file in a style, by value, which keeps the promise of that style; with a refusal goes a drawing of zeros.
-pub fn drawing_of(style: Style, order: &[u8]) -> Done
+// The drawing of an order file in a style, by value, which keeps the promise of that style, or the refusal of document 01.
+#[tactic(auto, using(crate::proofs::Keeping::keeping))]
+pub fn drawing_of(style: Style, order: &[u8]) -> Answer<Drawing>
     ensures given { Gives (read_order style order.now) result }
     ensures keeps { (d : Plan) → read_order style order.now ≡ good d → Promised style d }
 {
     let mut table = [0u16; END];
-    let read = read_orders::read_order(order, style, &mut table);
-    let counts = read.counts;
-    let answer = read.answer;
-    let Answer::Accepted = answer else {
-        return Done {
-            answer,
-            drawing: drawing::no_drawing(),
-        };
-    };
-    let drawing = Drawing { counts, table };
-    Done { answer, drawing }
+    let counts = read_orders::read_order(order, style, &mut table)?;
+    Ok(Drawing { counts, table })
 }
 
 // The drawing file of a drawing by value.
-pub fn drawing_file(d: Drawing, out: &mut [u8]) -> Written
+pub fn drawing_file(d: Drawing, out: &mut [u8]) -> Answer<usize>
     requires { Came d }
     ensures { (q : Plan) → Reached q → Is q d → Wrote out.old (write_drawing q) out.new result }
 {
@@ -49,7 +40,7 @@ pub fn drawing_file(d: Drawing, out: &mut [u8]) -> Written
 }
 
 // Its order file, in the same manner.
-pub fn order_file(d: Drawing, out: &mut [u8]) -> Written
+pub fn order_file(d: Drawing, out: &mut [u8]) -> Answer<usize>
     requires { Came d }
     ensures { (q : Plan) → Reached q → Is q d → Wrote out.old (whole_order q) out.new result }
 {
@@ -57,49 +48,34 @@ pub fn order_file(d: Drawing, out: &mut [u8]) -> Written
 }
 
 // Draws an order file in a style: the drawing file of its drawing, which keeps the promise of that style, or the refusal of document 01.
-pub fn draw(style: Style, order: &[u8], out: &mut [u8]) -> Written
+#[tactic(auto, using(crate::proofs::Keeping::keeping))]
+pub fn draw(style: Style, order: &[u8], out: &mut [u8]) -> Answer<usize>
     ensures wrote { Wrote out.old (draw_file style order.now) out.new result }
     ensures keeps { (d : Plan) → read_order style order.now ≡ good d → Promised style d }
 {
     let mut table = [0u16; END];
-    let given = read_orders::read_order(order, style, &mut table);
-    let c = given.counts;
-    let answer = given.answer;
-    match answer {
-        Answer::Refused(r, p) => Written::Refused(r, p),
-        Answer::Accepted => write_files::put_drawing(out, &table, c),
-    }
+    let c = read_orders::read_order(order, style, &mut table)?;
+    write_files::put_drawing(out, &table, c)
 }
 
 // Compares a file with the drawing file of the finished drawing that the table holds.
-fn compare_drawing(file: &[u8], table: &Table, c: Counts) -> Answer
+fn compare_drawing(file: &[u8], table: &Table, c: Counts) -> Answer<()>
     requires { Ended (arrays_in table.now) c }
     ensures { (d : Plan) → Whole d → Holds d (arrays_in table.now) c → result ≡ answer (compare_bytes 0 file.now (drawing_bytes d)) }
 {
     let mut drawn = [0u8; LONGEST_DRAWING];
-    let style = c.style;
-    let need = write_files::drawing_length(style, c.n);
-    write_files::put_drawing(&mut drawn, table, c);
-    read_comparing::compare(file, &drawn[..need])
+    let length = write_files::put_drawing(&mut drawn, table, c)?;
+    read_comparing::compare(file, &drawn[..length])
 }
 
 // Reads a drawing file of a style, whose drawing keeps the promise of that style, and gives its order file back, or the refusal of document 01.
-pub fn undraw(style: Style, file: &[u8], out: &mut [u8]) -> Written
+#[tactic(auto, using(crate::proofs::Keeping::keeping))]
+pub fn undraw(style: Style, file: &[u8], out: &mut [u8]) -> Answer<usize>
     ensures wrote { Wrote out.old (order_back style file.now) out.new result }
     ensures keeps { (d : Plan) → read_drawing style file.now ≡ good d → Promised style d }
 {
     let mut table = [0u16; END];
-    let read = read_drawings::read_lines(file, style, &mut table);
-    let c = read.counts;
-    let answer = read.answer;
-    match answer {
-        Answer::Refused(r, p) => Written::Refused(r, p),
-        Answer::Accepted => {
-            let same = compare_drawing(file, &table, c);
-            match same {
-                Answer::Refused(r, p) => Written::Refused(r, p),
-                Answer::Accepted => write_files::put_order(out, &table, c),
-            }
-        }
-    }
+    let c = read_drawings::read_lines(file, style, &mut table)?;
+    compare_drawing(file, &table, c)?;
+    write_files::put_order(out, &table, c)
 }

@@ -1,11 +1,6 @@
--- `panel::drawing_of` meets its contract: what the order reader gave, by value.
-use Rattle.std.proofs.Common.{refl}
-use Rattle.exchange.specs.Kept.{read_keeps}
+-- What the order reader gave, by value.
 use Rattle.panel.specs.Reading.{given}
 use Rattle.panel.proofs.drawing_of.Goals as goal
 
 pub returns-clause-given : goal.returns-clause-given
-returns-clause-given c = given _ _ c.read_order-read.ensures refl refl c.in-Accepted.is
-
-pub returns-clause-keeps : goal.returns-clause-keeps
-returns-clause-keeps c = read_keeps _ _
+returns-clause-given c = given _ _ (rw c.in_ok-counts.was at c.read_order.ensures)

@@ -1,38 +1,22 @@
--- `panel::undraw` meets its contract: what the reader gave is a whole drawing, whose bytes are compared and whose order file is then written, or a refusal.
-use Rattle.std.proofs.Common.{sym, ◌∙◌}
-use Rattle.write_files.specs.Outputs.{turned}
-use Rattle.exchange.specs.Kept.{drawing-read_keeps}
-use Rattle.panel.specs.Undrawing.{lines-ended, lines-refused, bytes-differ, bytes_same}
+-- What the reader gave is a whole drawing, whose bytes are compared and whose order file is then written, or a refusal.
+use Rattle.rules.specs.Results.{handed_on}
+use Rattle.panel.specs.Undrawing.{lines-refused, ended, bytes-differ, bytes_same}
 use Rattle.panel.proofs.undraw.Goals as goal
 
-pub compare_drawing-same-requires : goal.compare_drawing-same-requires
-compare_drawing-same-requires c = lines-ended _ _ c.read_lines-read.ensures c.in-Accepted.is
+pub returns-in_err-c-clause-wrote : goal.returns-in_err-c-clause-wrote
+returns-in_err-c-clause-wrote c =
+    rw (handed_on c.from_residual.result _ c.from_residual.ensures.1) (lines-refused _ _ (rw c.in_err-c.was at c.read_lines.ensures) _)
+
+pub compare_drawing-requires : goal.compare_drawing-requires
+compare_drawing-requires c = ended _ _ (rw c.in_ok-c.was at c.read_lines.ensures)
+
+pub returns-in_err-compare_drawing-clause-wrote : goal.returns-in_err-compare_drawing-clause-wrote
+returns-in_err-compare_drawing-clause-wrote c =
+    rw (handed_on c.from_residual-in_err-compare_drawing.result _ c.from_residual-in_err-compare_drawing.ensures.1)
+    (bytes-differ _ _ (rw c.in_ok-c.was at c.read_lines.ensures) c.compare_drawing.ensures c.in_err-compare_drawing.was _)
 
 pub put_order-requires : goal.put_order-requires
-put_order-requires c = lines-ended _ _ c.read_lines-read.ensures c.in-Accepted.is
+put_order-requires c = ended _ _ (rw c.in_ok-c.was at c.read_lines.ensures)
 
-pub returns-in-Refused-clause-wrote : goal.returns-in-Refused-clause-wrote
-returns-in-Refused-clause-wrote c = rw (lines-refused _ _ c.read_lines-read.ensures _ _ c.in-Refused.is) (turned _ _ _)
-
-pub returns-in-Refused-clause-keeps : goal.returns-in-Refused-clause-keeps
-returns-in-Refused-clause-keeps c = drawing-read_keeps _ _
-
-pub returns-in-Refused-same-clause-wrote : goal.returns-in-Refused-same-clause-wrote
-returns-in-Refused-same-clause-wrote c =
-    let g = c.read_lines-read.ensures in
-    let h = c.in-Accepted.is in
-    let e = lines-ended _ _ g h in
-    rw (bytes-differ _ _ g h _ _ (sym (c.compare_drawing-same.ensures e.d e.whole e.holds) ∙ c.in-Refused-same.is)) (turned _ _ _)
-
-pub returns-in-Refused-same-clause-keeps : goal.returns-in-Refused-same-clause-keeps
-returns-in-Refused-same-clause-keeps c = drawing-read_keeps _ _
-
-pub returns-in-Accepted-same-clause-wrote : goal.returns-in-Accepted-same-clause-wrote
-returns-in-Accepted-same-clause-wrote c =
-    let g = c.read_lines-read.ensures in
-    let h = c.in-Accepted.is in
-    let e = lines-ended _ _ g h in
-    rw (bytes_same _ _ g h (sym (c.compare_drawing-same.ensures e.d e.whole e.holds) ∙ c.in-Accepted-same.is)) (c.put_order.ensures e.d e.whole e.holds)
-
-pub returns-in-Accepted-same-clause-keeps : goal.returns-in-Accepted-same-clause-keeps
-returns-in-Accepted-same-clause-keeps c = drawing-read_keeps _ _
+pub returns-clause-wrote : goal.returns-clause-wrote
+returns-clause-wrote c = bytes_same _ _ (rw c.in_ok-c.was at c.read_lines.ensures) c.compare_drawing.ensures c.in_ok-compare_drawing.was c.put_order.ensures
