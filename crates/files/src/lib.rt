@@ -1,9 +1,10 @@
 // The programs' reading and writing, of any reader and writer. What they print is `printing`'s, with its proof; only which bytes the system gives to a read and takes from a write is outside it.
 #![tactic(auto)]
 
-ghost use Rattle.std.specs.Prelude.{◌≡◌, ℕ, ◌<◌, ◌≤◌, List, length, take, IfSome, IfOk, IfErr, OnOk};
+ghost use Rattle.std.specs.Prelude.{◌≡◌, ◌≤◌, length, take, IfSome, IfOk, IfErr, OnOk};
 ghost use Rattle.std.specs.Io.KnownBytes.{Appends};
 ghost use Rattle.rules.specs.Output.{program, back_program};
+ghost use Rattle.printing.specs.Began.{Began};
 ghost use Rattle.files.specs.declared.FileError.TheVariants.{NotRead};
 
 use rules::{LONGEST_DRAWING, LONGEST_ORDER, Style};
@@ -54,7 +55,7 @@ impl From<ReadFailed> for FileError {
 pub fn read_input<R: Read>(from: &mut R, buffer: &mut [u8]) -> Result<usize, ReadFailed>
     ensures within { IfOk result (λ bytes. bytes ≤ length buffer.new) }
     ensures failed_within { IfErr result (λ e. e.bytes ≤ length buffer.new) }
-    ensures began { IfOk result (λ bytes. IfSome (R.remaining from.old) (λ file. take bytes buffer.new ≡ take (length buffer.old) file)) }
+    ensures began { IfOk result (λ bytes. IfSome (R.remaining from.old) (λ file. Began file (length buffer.old) (take bytes buffer.new))) }
 {
     let mut bytes = 0;
     while bytes < buffer.len() {

@@ -2,7 +2,7 @@
 // The functions ask for pages of document 01's sizes, so that 24 never happens; `files` has them.
 #![tactic(auto)]
 
-ghost use Rattle.std.specs.Prelude.{◌≡◌, ℕ, ◌≤◌, ◌<◌, List, length, take};
+ghost use Rattle.std.specs.Prelude.{ℕ, ◌≤◌, ◌<◌, List, length};
 ghost use Rattle.rules.specs.Refusals.{Result as Wanted};
 ghost use Rattle.rules.specs.OrderFile.{longest_order};
 ghost use Rattle.rules.specs.DrawingFile.{longest_drawing};
@@ -10,6 +10,7 @@ ghost use Rattle.rules.specs.Output.{printed, judged_bytes, program, back_progra
 ghost use Rattle.write_files.specs.Outputs.{Wrote};
 ghost use Rattle.printing_line.specs.Putting.{Printed, line_room};
 ghost use Rattle.printing.specs.Finishing.{Room};
+ghost use Rattle.printing.specs.Began.{Began};
 
 use rules::{Answer, Style};
 
@@ -29,7 +30,7 @@ fn finish(written: Answer<usize>, page: &mut [u8]) -> usize
 pub fn draw_page(style: Style, order: &[u8], page: &mut [u8]) -> usize
     requires { longest_drawing ≤ length page.old }
     ensures within { result ≤ length page.new }
-    ensures prints { (file : List ℕ) → order.now ≡ take judged_bytes file → Printed page.old (program style file) page.new result }
+    ensures prints { (file : List ℕ) → Began file judged_bytes order.now → Printed page.old (program style file) page.new result }
 {
     let written = panel::draw(style, order, page);
     finish(written, page)
@@ -39,7 +40,7 @@ pub fn draw_page(style: Style, order: &[u8], page: &mut [u8]) -> usize
 pub fn undraw_page(style: Style, drawing: &[u8], page: &mut [u8]) -> usize
     requires { longest_order ≤ length page.old }
     ensures within { result ≤ length page.new }
-    ensures prints { (file : List ℕ) (size : ℕ) → longest_drawing < size → drawing.now ≡ take size file → Printed page.old (back_program style file) page.new result }
+    ensures prints { (file : List ℕ) (size : ℕ) → longest_drawing < size → Began file size drawing.now → Printed page.old (back_program style file) page.new result }
 {
     let written = panel::undraw(style, drawing, page);
     finish(written, page)
