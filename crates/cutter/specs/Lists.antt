@@ -1,17 +1,21 @@
 -- All moves in two buffers: the answer and what the buffers hold afterwards.
-use Rattle.std.specs.Prelude.{ℕ, ◌+◌, ◌*◌, ◌<◌, ◌≤◌, ◌≡◌, refl, List, length, Float}
+use Rattle.std.specs.Prelude.{ℕ, ◌+◌, ◌*◌, ◌<◌, ◌≤◌, ◌≡◌, refl, List, length, Float, Result as Outcome, Ok, Err}
 use Rattle.std.proofs.Common.{add-one, arith, ap, ◌∙◌, subst, lt-ltb, le-ltb}
 use Rattle.rules.specs.declared.Refusal.{Refusal}
-use Rattle.rules.specs.Refusals.{Result, good, refused, told, ◌>>=◌}
+use Rattle.rules.specs.declared.Refusal.TheVariants.{BadTool, Unfinished}
+use Rattle.rules.specs.declared.Refused.{Refused}
+use Rattle.rules.specs.Refusals.{Result, good, refused, refusal_at, told, ◌>>=◌}
 use Rattle.rules.specs.Results.{never-good}
 use Rattle.rules.specs.Points.{Drawing as Plan, line_at}
 use Rattle.rules.specs.Output.{counted, filled, room_for}
-use Rattle.rules.specs.Moves.{Tool as WholeTool, Move as WholeMove, moves_of, all_moves}
+use Rattle.rules.specs.Moves.{Tool as WholeTool, Move as WholeMove, moves_of, all_moves, given_moves}
 use Rattle.store_links.specs.declared.Counts.{Counts}
 use Rattle.store_links.specs.Arrays.{Arrays}
 use Rattle.store_laws.specs.Adding.{Holds}
 use Rattle.words.specs.Writing.{stored-filled}
-use Rattle.answers.specs.declared.Listed.{Listed}
+use Rattle.tool.specs.declared.Tool.{Tool}
+use Rattle.tool.specs.Checking.{whole_tool}
+use Rattle.answers.specs.declared.NotListed.{NotListed}
 use Rattle.answers.specs.Told.{told_listed, listed_for}
 use Rattle.cutter_lines.specs.declared.Groove.{Groove}
 use Rattle.cutter_lines.specs.Grooves.{groove_moves, total}
@@ -19,9 +23,12 @@ use Rattle.cutter_lists.specs.Listing.{kinds_of, numbers_of, Exactly, Puts, leng
 use Rattle.cutter_grooves.specs.Grooves.{groove_of, groove_moves_lem}
 use Rattle.cutter.specs.Numbering.{moves_to, to_next, to_all, to_most}
 use Rattle.cutter.specs.Finding.{total_is}
+use Rattle.cutter.specs.Whole.{all_bad, all_early}
+use Rattle.cutter.specs.Setting.{NotSet, bad, early}
+use Rattle.cutter.specs.Seen.{unfinished}
 
 -- the moves `wanted` were to be written: 24 where a buffer is too short; a refusal changes nothing, and what stands past the moves stays
-pub record Lists (wanted : Result (List WholeMove)) (kinds : List ℕ) (numbers : List Float) (kinds' : List ℕ) (numbers' : List Float) (r : Listed) : Type 0 where
+pub record Lists (wanted : Result (List WholeMove)) (kinds : List ℕ) (numbers : List Float) (kinds' : List ℕ) (numbers' : List Float) (r : Outcome ℕ NotListed) : Type 0 where
   pub answer : r ≡ listed_for (length kinds) (length numbers) wanted
   pub told : told_listed r ≡ told (counted (room_for (length kinds) (length numbers) wanted))
   pub kinds_after : kinds' ≡ filled kinds (room_for (length kinds) (length numbers) wanted >>= λ ms. good (kinds_of ms))
@@ -30,24 +37,29 @@ pub record Lists (wanted : Result (List WholeMove)) (kinds : List ℕ) (numbers 
 
 module _ (kinds : List ℕ) (numbers : List Float) where
   -- nothing was to be written
-  pub lists-refused : (r : Refusal) (p : ℕ) → Lists (refused r p) kinds numbers kinds numbers (Listed.Refused r p)
+  pub lists-refused : (r : Refusal) (p : ℕ) → Lists (refused r p) kinds numbers kinds numbers (Err (NotListed.Refused (refusal_at r p)))
   lists-refused r p = record { answer = refl; told = refl; kinds_after = refl; numbers_after = refl; exact = λ ms e. absurd (never-good e) }
+
+  -- no setting: 12 or 22
+  pub lists-not : {q : Plan} {a : Arrays} {c : Counts} → Holds q a c → (t : Tool) (e : Refused) → NotSet c t e → Lists (given_moves q (whole_tool t)) kinds numbers kinds numbers (Err (NotListed.Refused e))
+  lists-not {q} h t _ (bad is) = rw (all_bad q (whole_tool t) is) (lists-refused BadTool 0)
+  lists-not {q} h t _ (early is b) = rw (all_early q (whole_tool t) is (unfinished h b)) (lists-refused Unfinished 0)
 
   module _ (ms : List WholeMove) where
     -- no room for the kinds
-    pub lists-kinds : length kinds < length ms → Lists (good ms) kinds numbers kinds numbers Listed.KindsShort
+    pub lists-kinds : length kinds < length ms → Lists (good ms) kinds numbers kinds numbers (Err NotListed.KindsShort)
     lists-kinds h = let t = lt-ltb (length kinds) (length ms) h in record { answer = rw t; told = rw t; kinds_after = rw t; numbers_after = rw t; exact = λ ns e. absurd (never-good (rw t at e)) }
 
     module _ (room : length ms ≤ length kinds) where
       -- no room for the numbers
-      pub lists-numbers : length numbers < 2 * length ms → Lists (good ms) kinds numbers kinds numbers Listed.NumbersShort
+      pub lists-numbers : length numbers < 2 * length ms → Lists (good ms) kinds numbers kinds numbers (Err NotListed.NumbersShort)
       lists-numbers h =
           let s = le-ltb (length kinds) (length ms) room in
           let t = lt-ltb (length numbers) (2 * length ms) h in
           record { answer = rw (s, t); told = rw (s, t); kinds_after = rw (s, t); numbers_after = rw (s, t); exact = λ ns e. absurd (never-good (rw (s, t) at e)) }
 
       -- room for both
-      pub lists_all : {kinds' : List ℕ} {numbers' : List Float} {r : ℕ} → 2 * length ms ≤ length numbers → Puts kinds numbers 0 ms kinds' numbers' r → Lists (good ms) kinds numbers kinds' numbers' (Listed.Moves r)
+      pub lists_all : {kinds' : List ℕ} {numbers' : List Float} {r : ℕ} → 2 * length ms ≤ length numbers → Puts kinds numbers 0 ms kinds' numbers' r → Lists (good ms) kinds numbers kinds' numbers' (Ok r)
       lists_all {r = r} h p =
           let s = le-ltb (length kinds) (length ms) room in
           let t = le-ltb (length numbers) (2 * length ms) h in

@@ -8,80 +8,91 @@ ghost use Rattle.rules.specs.Moves.{Tool as WholeTool, is_tool, all_moves, given
 ghost use Rattle.store_laws.specs.Adding.{Holds};
 ghost use Rattle.store_tables.specs.Tables.{arrays_in};
 ghost use Rattle.answers.specs.Told.{told_count};
-ghost use Rattle.tool.specs.Checking.{whole_tool, tool_of, InRange};
+ghost use Rattle.tool.specs.Checking.{whole_tool, tool_of};
 ghost use Rattle.drawing.specs.View.{Is};
 ghost use Rattle.drawing.specs.Places.{PlacedIn, IsPlaced};
 ghost use Rattle.cutter_lists.specs.Listing.{Puts};
-ghost use Rattle.cutter.specs.Finding.{FindsMove, RoomIn};
+ghost use Rattle.cutter.specs.Finding.{Finds, RoomIn};
+ghost use Rattle.cutter.specs.Setting.{Sets};
 ghost use Rattle.cutter.specs.Seen.{MoveSeen, move_count};
 ghost use Rattle.cutter.specs.Lists.{Lists};
 
-use answers::{Counted, Listed, Moved};
+use answers::NotListed;
+use cutter_lines::Setting;
 use drawing::Placed;
-use rules::Refusal;
+use rules::{Answer, Refusal};
 use store_links::Counts;
 use store_tables::{POINTS, Table};
-use tool::{Checked, Numbers, Tool};
+use tool::{Move, Tool};
 
-// The line that a move belongs to, or the number of lines where there is no such move; and how many moves stand before that line's.
-#[derive(Clone, Copy)]
+// The line that a move belongs to, and how many moves stand before that line's.
+#[derive(Clone, Copy, Debug, PartialEq, Eq)]
 struct Found {
     line: usize,
     before: usize,
 }
 
 // Looks for move `number`, from 0, line by line.
-fn find(table: &Table, x: &[u16; POINTS], c: Counts, number: usize) -> Found
+fn find(table: &Table, x: &[u16; POINTS], c: Counts, number: usize) -> Option<Found>
     requires { PlacedIn c table.now x.now }
-    ensures { (q : Plan) (t : WholeTool) → Holds q (arrays_in table.now) c → 1 ≤ t.pitch → FindsMove q t number result }
+    ensures { (q : Plan) (t : WholeTool) → Holds q (arrays_in table.now) c → 1 ≤ t.pitch → Finds q t number result }
 {
-    let lines = c.lines;
     let mut before = 0;
-    let mut line = 0;
-    while line < lines {
-        let here = cutter_lines::move_total(cutter_grooves::groove_of(table, x, c, line));
+    for line in 0..c.lines {
+        let here = cutter_grooves::groove_of(table, x, c, line).move_total();
         if number < before + here {
-            return Found { line, before };
+            return Some(Found { line, before });
         }
         before += here;
-        line += 1;
     }
-    Found { line, before }
+    None
 }
 
-// A number that no move has: a line gives ten moves at most.
-const NO_MOVE: usize = 10 * 3072;
-
-// How many moves there are: all stand before one that isn't there.
+// How many moves there are.
 fn count_moves(table: &Table, x: &[u16; POINTS], c: Counts) -> usize
     requires { PlacedIn c table.now x.now }
     ensures { (q : Plan) (t : WholeTool) → Holds q (arrays_in table.now) c → 1 ≤ t.pitch → result ≡ length (all_moves q t) }
 {
-    find(table, x, c, NO_MOVE).before
+    let mut count = 0;
+    for line in 0..c.lines {
+        let here = cutter_grooves::groove_of(table, x, c, line).move_total();
+        count += here;
+    }
+    count
+}
+
+// The setting of a finished drawing with this tool. Refusals in order: 12, 22.
+fn setting(c: Counts, t: Tool) -> Answer<Setting>
+    requires { (1 ≤ c.s) × (c.s ≤ 8) }
+    ensures { Sets c t result }
+{
+    let tool = tool::check_tool(t).ok_or(Refusal::BadTool.at(0))?;
+    if c.k < c.n {
+        return Err(Refusal::Unfinished.at(0));
+    }
+    Ok(Setting { scale: c.s, tool })
 }
 
 // Move `number`, from 0, of the moves with this tool, from a lent table and its settled x. Refusals in order: 12, 22, 23.
 // For `panel_c`: it asks for the table of a drawing. It takes the time of one pass over the lines.
-pub fn look_move(table: &Table, x: &[u16; POINTS], c: Counts, t: Tool, number: usize) -> Moved
+pub fn look_move(
+    table: &Table,
+    x: &[u16; POINTS],
+    c: Counts,
+    t: Tool,
+    number: usize,
+) -> Answer<Move>
     requires { PlacedIn c table.now x.now }
     ensures { (q : Plan) → Holds q (arrays_in table.now) c → MoveSeen result (move_at q (whole_tool t) number) }
 {
-    let Checked::Good(numbers) = tool::check_tool(t) else {
-        return Moved::Refused(Refusal::BadTool, 0);
-    };
-    if c.k < c.n {
-        return Moved::Refused(Refusal::Unfinished, 0);
-    }
-    let found = find(table, x, c, number);
-    if c.lines <= found.line {
-        return Moved::Refused(Refusal::NoSuch, 0);
-    }
-    let g = cutter_grooves::groove_of(table, x, c, found.line);
-    Moved::Made(cutter_lines::groove_move(number - found.before, c.s, g, numbers))
+    let by = setting(c, t)?;
+    let found = find(table, x, c, number).ok_or(Refusal::NoSuch.at(0))?;
+    let groove = cutter_grooves::groove_of(table, x, c, found.line);
+    Ok(groove.move_at(number - found.before, by))
 }
 
 // The same of a drawing by value: x is settled beforehand, once for all moves.
-pub fn move_at(v: Placed, t: Tool, number: usize) -> Moved
+pub fn move_at(v: Placed, t: Tool, number: usize) -> Answer<Move>
     requires { IsPlaced v }
     ensures { (q : Plan) → Is q v.drawing → MoveSeen result (move_at q (whole_tool t) number) }
 {
@@ -90,16 +101,17 @@ pub fn move_at(v: Placed, t: Tool, number: usize) -> Moved
 }
 
 // How many moves a finished drawing has, whatever the tool.
-pub fn move_count(v: Placed) -> Counted
+pub fn move_count(v: Placed) -> Answer<usize>
     requires { IsPlaced v }
     ensures { (q : Plan) (t : WholeTool) → Is q v.drawing → is_tool t ≡ true → told_count result ≡ told (move_count q t) }
 {
     let d = v.drawing;
     let c = d.counts;
     if c.k < c.n {
-        return Counted::Refused(Refusal::Unfinished, 0);
+        Err(Refusal::Unfinished.at(0))
+    } else {
+        Ok(count_moves(&d.table, &v.x, c))
     }
-    Counted::Moves(count_moves(&d.table, &v.x, c))
 }
 
 // Puts all moves of the drawing into the buffers.
@@ -107,20 +119,19 @@ fn put_moves(
     table: &Table,
     x: &[u16; POINTS],
     c: Counts,
-    t: Numbers,
+    by: Setting,
     kinds: &mut [u8],
     numbers: &mut [f32],
 ) -> usize
-    requires { PlacedIn c table.now x.now × InRange t × RoomIn table.now c t (length kinds.old) (length numbers.old) }
-    ensures { (q : Plan) → Holds q (arrays_in table.now) c → Puts kinds.old numbers.old 0 (all_moves q (tool_of t)) kinds.new numbers.new result }
+    requires placed { PlacedIn c table.now x.now }
+    requires scaled { by.scale ≡ c.s }
+    requires room { RoomIn table.now c by.tool (length kinds.old) (length numbers.old) }
+    ensures { (q : Plan) → Holds q (arrays_in table.now) c → Puts kinds.old numbers.old 0 (all_moves q (tool_of by.tool)) kinds.new numbers.new result }
 {
-    let lines = c.lines;
     let mut count = 0;
-    let mut line = 0;
-    while line < lines {
-        let g = cutter_grooves::groove_of(table, x, c, line);
-        count = cutter_lists::put_groove(kinds, numbers, count, g, c.s, t);
-        line += 1;
+    for line in 0..c.lines {
+        let groove = cutter_grooves::groove_of(table, x, c, line);
+        count = cutter_lists::put_groove(kinds, numbers, count, groove, by);
     }
     count
 }
@@ -134,28 +145,28 @@ pub fn look_moves(
     t: Tool,
     kinds: &mut [u8],
     numbers: &mut [f32],
-) -> Listed
+) -> Result<usize, NotListed>
     requires { PlacedIn c table.now x.now }
     ensures { (q : Plan) → Holds q (arrays_in table.now) c → Lists (given_moves q (whole_tool t)) kinds.old numbers.old kinds.new numbers.new result }
 {
-    let Checked::Good(good) = tool::check_tool(t) else {
-        return Listed::Refused(Refusal::BadTool, 0);
-    };
-    if c.k < c.n {
-        return Listed::Refused(Refusal::Unfinished, 0);
-    }
+    let by = setting(c, t)?;
     let count = count_moves(table, x, c);
     if kinds.len() < count {
-        return Listed::KindsShort;
+        return Err(NotListed::KindsShort);
     }
     if numbers.len() < 2 * count {
-        return Listed::NumbersShort;
+        return Err(NotListed::NumbersShort);
     }
-    Listed::Moves(put_moves(table, x, c, good, kinds, numbers))
+    Ok(put_moves(table, x, c, by, kinds, numbers))
 }
 
 // The same of a drawing by value.
-pub fn moves_into(v: Placed, t: Tool, kinds: &mut [u8], numbers: &mut [f32]) -> Listed
+pub fn moves_into(
+    v: Placed,
+    t: Tool,
+    kinds: &mut [u8],
+    numbers: &mut [f32],
+) -> Result<usize, NotListed>
     requires { IsPlaced v }
     ensures { (q : Plan) → Is q v.drawing → Lists (given_moves q (whole_tool t)) kinds.old numbers.old kinds.new numbers.new result }
 {

@@ -1,14 +1,10 @@
 -- What a line's moves ask of a drawing: its scale is at most 8, and its points and bends lie on the grid. A line that is there is seen, with its bend where it has one.
-use Rattle.std.specs.Prelude.{ℕ, ◌<◌, ◌≤◌, ◌≡◌, refl, length}
+use Rattle.std.specs.Prelude.{ℕ, ◌<◌, ◌≤◌, ◌≡◌, refl, length, Ok}
 use Rattle.std.proofs.Common.{arith, ap, ◌∙◌, lt-ltb, le-leb}
 use Rattle.rules.specs.declared.Style.{Style}
 use Rattle.rules.specs.declared.Style.TheVariants.{OneBend, Straight}
-use Rattle.rules.specs.declared.Kind.TheVariants.{Guide}
-use Rattle.rules.specs.declared.Bend.TheVariants.{NoBend}
 use Rattle.rules.specs.declared.Line.{Line}
 use Rattle.rules.specs.declared.Place.{Place}
-use Rattle.rules.specs.declared.Refusal.{Refusal}
-use Rattle.rules.specs.Refusals.{good}
 use Rattle.rules.specs.Styles as Rules
 use Rattle.rules.specs.Points.{Drawing as Plan, place_of, line_at}
 use Rattle.rules.specs.Ports.{bend_place}
@@ -19,30 +15,22 @@ use Rattle.store_links.specs.declared.Counts.{Counts}
 use Rattle.store_links.specs.Arrays.{Arrays}
 use Rattle.store_laws.specs.Adding.{Holds}
 use Rattle.cutter_lines.specs.Grooves.{OnGrid, GrooveOnGrid}
-use Rattle.answers.specs.Told.{point_seen, line_seen}
+use Rattle.answers.specs.Told.{point_seen, line_seen, seen_of}
 use Rattle.answers.specs.declared.LineSeen.{LineSeen}
 use Rattle.answers.specs.declared.LineSeen.TheVariants as Line
-use Rattle.answers.specs.declared.PointSeen.{PointSeen}
-use Rattle.answers.specs.declared.PointSeen.TheVariants as Point
 use Rattle.drawing.specs.declared.Drawing.{Drawing}
 use Rattle.drawing.specs.View.{Came}
 use Rattle.store_settling.specs.Lines.{ends}
 use Rattle.cutter_grooves.specs.Grooves.{bend_by, groove_of}
 
--- what stands for a line that isn't there
-abbrev no_line : Line
-no_line = record { later = 0; earlier = 0; bend = NoBend; kind = Guide }
-
 -- the line that was seen, and where it bends; of a straight line another place stands for that
 abbrev pub line_in : LineSeen → Line
 line_in (Line.Bent l b) = l
 line_in (Line.Straight l) = l
-line_in (Line.Refused r p) = no_line
 
 abbrev pub bend_in : LineSeen → Place → Place
 bend_in (Line.Bent l b) other = b
 bend_in (Line.Straight l) other = other
-bend_in (Line.Refused r p) other = other
 
 -- A drawing that came from calls or an order file has a scale from 1 to 8.
 pub scale : {d : Drawing} → Came d → (1 ≤ d.counts.s) × (d.counts.s ≤ 8)
@@ -74,15 +62,8 @@ groove_on_grid q h e el =
 
 module _ {q : Plan} {a : Arrays} {c : Counts} (h : Holds q a c) where
   -- A point that is there is seen at its place.
-  module _ (p : ℕ) (low : 1 ≤ p) (high : p ≤ c.k) (r : PointSeen) (is : r ≡ point_seen (look_point q p)) where
-    point_at_lem : r ≡ Point.At (place_of q p)
-    point_at_lem = is ∙ rw (le-leb 1 p low, le-leb p q.k (omega (arith, h.stores.k)))
-
-    pub place_seen : (x : Place) → r ≡ Point.At x → x ≡ place_of q p
-    place_seen x e = let z = point_at_lem in cc
-
-    pub place_sure : (f : Refusal) (n : ℕ) → r ≡ Point.Refused f n → ⊥
-    place_sure f n e = let z = point_at_lem in let o : ◌≡◌ {A = ℕ} 0 1 = cc in omega arith
+  pub place_seen : (p : ℕ) → 1 ≤ p → p ≤ c.k → point_seen (look_point q p) ≡ Ok (place_of q p)
+  place_seen p low high = rw (le-leb 1 p low, le-leb p q.k (omega (arith, h.stores.k)))
 
   module _ (e : ℕ) (b : e < c.lines) where
     el : e < length q.lines
@@ -93,27 +74,30 @@ module _ {q : Plan} {a : Arrays} {c : Counts} (h : Holds q a c) where
     stored_on_grid = groove_on_grid q h.standing e el
 
     -- Its ends are points.
-    pub later_there : (1 ≤ (line_at q e).later) × ((line_at q e).later ≤ c.k)
-    later_there = let p = ends h.standing e el in (p.0, omega (arith, p.1, h.stores.k))
+    pub later_there : (l : Line) → l ≡ line_at q e → (1 ≤ l.later) × (l.later ≤ c.k)
+    later_there l z = let p = ends h.standing e el in (rw z p.0, rw z (omega (arith, p.1, h.stores.k)))
 
-    pub earlier_there : (1 ≤ (line_at q e).earlier) × ((line_at q e).earlier ≤ c.k)
-    earlier_there = let p = ends h.standing e el in (p.2, omega (arith, p.3, h.stores.k))
+    pub earlier_there : (l : Line) → l ≡ line_at q e → (1 ≤ l.earlier) × (l.earlier ≤ c.k)
+    earlier_there l z = let p = ends h.standing e el in (rw z p.2, rw z (omega (arith, p.3, h.stores.k)))
 
     -- A line that is there is seen,
-    line_at_lem : line_seen (look_line q e) ≡ line_seen (good (Rules.seen q.style (line_at q e) (bend_place q (line_at q e))))
-    line_at_lem = rw (lt-ltb e (length q.lines) el)
+    pub line_sure : line_seen (look_line q e) ≡ Ok (seen_of (Rules.seen q.style (line_at q e) (bend_place q (line_at q e))))
+    line_sure = rw (lt-ltb e (length q.lines) el)
 
-    pub line_seen_lem : (r : LineSeen) → r ≡ line_seen (look_line q e) → line_in r ≡ line_at q e
-    line_seen_lem r is = ap line_in (is ∙ line_at_lem) ∙ go q.style
+    same : (r : LineSeen) → Ok r ≡ line_seen (look_line q e) → r ≡ seen_of (Rules.seen q.style (line_at q e) (bend_place q (line_at q e)))
+    same r is = let z = line_sure in cc
+
+    pub line_seen_lem : (r : LineSeen) → Ok r ≡ line_seen (look_line q e) → line_in r ≡ line_at q e
+    line_seen_lem r is = ap line_in (same r is) ∙ go q.style
       where
-        go : (τ : Style) → line_in (line_seen (good (Rules.seen τ (line_at q e) (bend_place q (line_at q e))))) ≡ line_at q e
+        go : (τ : Style) → line_in (seen_of (Rules.seen τ (line_at q e) (bend_place q (line_at q e)))) ≡ line_at q e
         go OneBend = refl
         go Straight = refl
 
     -- and with its bend where it has one.
-    pub bend_seen : (r : LineSeen) → r ≡ line_seen (look_line q e) → (p : Place) → bend_in r p ≡ bend_by q.style (bend_place q (line_at q e)) p
-    bend_seen r is p = ap (λ (s : LineSeen). bend_in s p) (is ∙ line_at_lem) ∙ go q.style
+    pub bend_seen : (r : LineSeen) → Ok r ≡ line_seen (look_line q e) → (p : Place) → bend_in r p ≡ bend_by q.style (bend_place q (line_at q e)) p
+    bend_seen r is p = ap (λ (s : LineSeen). bend_in s p) (same r is) ∙ go q.style
       where
-        go : (τ : Style) → bend_in (line_seen (good (Rules.seen τ (line_at q e) (bend_place q (line_at q e))))) p ≡ bend_by τ (bend_place q (line_at q e)) p
+        go : (τ : Style) → bend_in (seen_of (Rules.seen τ (line_at q e) (bend_place q (line_at q e)))) p ≡ bend_by τ (bend_place q (line_at q e)) p
         go OneBend = refl
         go Straight = refl

@@ -10,36 +10,27 @@ ghost use Rattle.drawing.specs.Places.{PlacedIn};
 ghost use Rattle.cutter_grooves.specs.Grid.{line_in, bend_in};
 ghost use Rattle.cutter_grooves.specs.Grooves.{groove_of};
 
-use answers::{LineSeen, PointSeen};
+use answers::LineSeen;
 use cutter_lines::Groove;
-use rules::{Bend, Kind, Line, Place};
+use rules::{Line, Place};
 use store_links::Counts;
 use store_tables::{POINTS, Table};
 
 // The place of a placed point.
 fn place_of(table: &Table, x: &[u16; POINTS], c: Counts, p: u16) -> Place
-    requires { PlacedIn c table.now x.now × (1 ≤ p) × (p ≤ c.k) }
+    requires placed { PlacedIn c table.now x.now }
+    requires there { (1 ≤ p) × (p ≤ c.k) }
     ensures { (q : Plan) → Holds q (arrays_in table.now) c → result ≡ place_of q p }
 {
-    let PointSeen::At(a) = store_looking::look_point(table, x, c, words::broad(p)) else {
-        return Place { x: 0, y: 0 };
-    };
-    a
+    store_looking::look_point(table, x, c, usize::from(p)).unwrap()
 }
 
-// The line that was seen; a line without ends where none was.
+// The line that was seen.
 fn line_of(seen: LineSeen) -> Line
     ensures { result ≡ line_in seen }
 {
     match seen {
-        LineSeen::Bent(l, _) => l,
-        LineSeen::Straight(l) => l,
-        LineSeen::Refused(_, _) => Line {
-            later: 0,
-            earlier: 0,
-            bend: Bend::NoBend,
-            kind: Kind::Guide,
-        },
+        LineSeen::Bent(l, _) | LineSeen::Straight(l) => l,
     }
 }
 
@@ -50,26 +41,24 @@ fn bend_of(seen: LineSeen, earlier: Place) -> Place
     match seen {
         LineSeen::Bent(_, bend) => bend,
         LineSeen::Straight(_) => earlier,
-        LineSeen::Refused(_, _) => earlier,
     }
 }
 
 // Line e, as it is cut.
 pub fn groove_of(table: &Table, x: &[u16; POINTS], c: Counts, e: usize) -> Groove
-    requires { PlacedIn c table.now x.now × (e < c.lines) }
+    requires placed { PlacedIn c table.now x.now }
+    requires there { e < c.lines }
     ensures is { (q : Plan) → Holds q (arrays_in table.now) c → result ≡ groove_of q (line_at q e) }
     ensures fits { GrooveOnGrid result }
 {
-    let seen = store_looking::look_line(table, x, c, e);
-    let l = line_of(seen);
-    let kind = l.kind;
-    let later = place_of(table, x, c, l.later);
-    let earlier = place_of(table, x, c, l.earlier);
-    let bend = bend_of(seen, earlier);
+    let seen = store_looking::look_line(table, x, c, e).unwrap();
+    let line = line_of(seen);
+    let later = place_of(table, x, c, line.later);
+    let earlier = place_of(table, x, c, line.earlier);
     Groove {
-        kind,
+        kind: line.kind,
         later,
-        bend,
+        bend: bend_of(seen, earlier),
         earlier,
     }
 }

@@ -1,4 +1,3 @@
 pub mod Net
-pub mod Judged
 pub mod Numbered
 pub mod Outcome

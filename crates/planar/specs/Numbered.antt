@@ -1,7 +1,7 @@
 -- The numbered points in arrays give the words of the order file and the list of vertices.
 use Rattle.std.specs.Prelude.{ℕ, zero, suc, ◌+◌, ◌*◌, ◌<◌, ◌≤◌, ◌≡◌, refl, List, [], ◌∷◌, ◌++◌, map, length, get_or, take, drop}
 use Rattle.std.proofs.Math.Path.{ap}
-use Rattle.std.proofs.Common.{sym, ◌∙◌, subst, arith, add-one, add-zero, get_or-take, drop-cons}
+use Rattle.std.proofs.Common.{sym, ◌∙◌, subst, arith, add-zero, get_or-take, drop-cons}
 use Rattle.rules.specs.Basics.{index_of}
 use Rattle.rules.specs.Entries.{word_of}
 use Rattle.rules.specs.Records.{bytes_of, order_mark, entries_mark, end_mark}
@@ -10,18 +10,14 @@ use Rattle.planar_rules.specs.PlanarCode.{Flat, Point, points, vertices, point_o
 use Rattle.planar_order.specs.Numbering.{AllLines, more as another}
 use Rattle.planar_order.specs.Theorem.{Ordered}
 use Rattle.planar_order.proofs.Theorem.{order-length, list_length}
-use Rattle.planar_judging.specs.Arrays.{flat_of}
-use Rattle.planar_choosing.specs.Choosing.{Positions, Apart}
+use Rattle.planar_reading.specs.Reads.{net_in}
+use Rattle.planar_reading.specs.declared.net.Net.{Net}
+use Rattle.planar_choosing.specs.Rows.{Apart}
 use Rattle.planar_numbering.specs.Points.{points_in}
 use Rattle.planar_numbering.specs.Numbered.{AllNumbered}
-use Rattle.planar_writing.specs.Words.{numbers_of, point_words, points_words, order_words, Puttable}
+use Rattle.planar_writing.specs.Words.{Known, numbers_of, point_words, points_words, order_words, Puttable}
 use Rattle.words.specs.Writing.{Stored}
-use Rattle.planar.specs.Net.{TakenIn, n_byte, its_order}
-
--- all points are numbered, and num has each vertex's number
-pub record NumberedIn (f : Flat) (ver ln ent num : List ℕ) (s : ℕ) : Type 0 where
-  pub numbered : AllNumbered f ver ln ent s
-  pub positions : Positions ver f.n num
+use Rattle.planar.specs.Net.{TakenIn, its_order}
 
 -- ---- words and bytes
 
@@ -38,29 +34,33 @@ within-lines f h (p ∷ ps) (another l a) = more {p = p} (λ x xl. let w = l.is_
 plain_word : (p : ℕ) → word_of (plain p) ≡ p
 plain_word p = add-zero p
 
--- the numbers of vertices, by the array and by the rules
-same_words : (vs num : List ℕ) (n : ℕ) (es : List ℕ) → ((v : ℕ) → v < n → get_or num v 0 ≡ point_of vs v) → ((x : ℕ) → x < length es → get_or es x 0 < n) → numbers_of num es ≡ entry_words vs es
-same_words vs num n [] e w = refl
-same_words vs num n (v ∷ es) e w =
-    rw (plain_word (point_of vs v), e v (w 0 (omega arith))) (ap (λ t. point_of vs v ∷ t) (same_words vs num n es e (λ x xl. w (suc x) (omega arith))))
+-- the numbers of vertices are the words of their entries
+same_words : (vs es : List ℕ) → numbers_of vs es ≡ entry_words vs es
+same_words vs [] = refl
+same_words vs (v ∷ es) = rw (plain_word (point_of vs v)) (ap (λ t. point_of vs v ∷ t) (same_words vs es))
 
 -- the records of some points
-records_in : (vs num ver ln : List ℕ) (n i c : ℕ) (l : List ℕ) → ((v : ℕ) → v < n → get_or num v 0 ≡ point_of vs v) → Within n (points_in ver ln i c l) →
-    bytes_of (points_words num ln i c l) ≡ records vs (points_in ver ln i c l)
+records_in : (vs ver ln : List ℕ) (i c : ℕ) (l : List ℕ) → bytes_of (points_words vs ln i c l) ≡ records vs (points_in ver ln i c l)
 unfolding points_words points_in records
-records_in vs num ver ln n i zero l e w = refl
-records_in vs num ver ln n i (suc c) l e (more a w) =
+records_in vs ver ln i zero l = refl
+records_in vs ver ln i (suc c) l =
     let es : List ℕ = take (get_or ln i 0) l in
-    bytes_append (point_words num es) (points_words num ln (suc i) c (drop (get_or ln i 0) l)) ∙
-    ap (λ t. bytes_of (point_words num es) ++ t) (records_in vs num ver ln n (suc i) c (drop (get_or ln i 0) l) e w) ∙
-    ap (λ t. bytes_of (entries_mark ∷ t) ++ records vs (points_in ver ln (suc i) c (drop (get_or ln i 0) l))) (counted es (same_words vs num n es e a))
+    bytes_append (point_words vs es) (points_words vs ln (suc i) c (drop (get_or ln i 0) l)) ∙
+    ap (λ t. bytes_of (point_words vs es) ++ t) (records_in vs ver ln (suc i) c (drop (get_or ln i 0) l)) ∙
+    ap (λ t. bytes_of (entries_mark ∷ t) ++ records vs (points_in ver ln (suc i) c (drop (get_or ln i 0) l))) (counted es (same_words vs es))
   where
-    counted : (es : List ℕ) → numbers_of num es ≡ entry_words vs es → length es ∷ numbers_of num es ≡ length (entry_words vs es) ∷ entry_words vs es
+    counted : (es : List ℕ) → numbers_of vs es ≡ entry_words vs es → length es ∷ numbers_of vs es ≡ length (entry_words vs es) ∷ entry_words vs es
     counted es q = ap (λ t. length es ∷ t) q ∙ ap (λ k. k ∷ entry_words vs es) (same_length es)
       where
         same_length : (es : List ℕ) → length es ≡ length (entry_words vs es)
         same_length [] = refl
         same_length (v ∷ es) = ap suc (same_length es)
+
+-- their entries are known, where all vertices are
+known_in : (vs ver ln : List ℕ) (n i c : ℕ) (l : List ℕ) → ((v : ℕ) → v < n → index_of v vs < length vs) → Within n (points_in ver ln i c l) → Known vs ln i c l
+unfolding points_in Known
+known_in vs ver ln n i zero l h w = tt
+known_in vs ver ln n i (suc c) l h (more a w) = (λ x xl. h _ (a x xl), known_in vs ver ln n (suc i) c (drop (get_or ln i 0) l) h w)
 
 vertices_in : (ver ln : List ℕ) (i c : ℕ) (l : List ℕ) → i + c ≤ length ver → vertices (points_in ver ln i c l) ≡ take c (drop i ver)
 unfolding points_in
@@ -70,9 +70,12 @@ vertices_in ver ln i (suc c) l p =
 
 -- ---- the points of a net that is taken
 
-module _ {file : List ℕ} {n D : ℕ} {off own nbr : List ℕ} (t : TakenIn file n D off own nbr) where
+module _ {file : List ℕ} {net : Net} (t : TakenIn file net) where
   abbrev f : Flat
-  f = flat_of n D off own nbr
+  f = net_in net
+
+  abbrev n : ℕ
+  n = f.n
 
   abbrev vs : List ℕ
   vs = vertices (points f)
@@ -92,71 +95,62 @@ module _ {file : List ℕ} {n D : ℕ} {off own nbr : List ℕ} (t : TakenIn fil
   within =
       rw order.points_are
       (more {p = record { vertex = first; entries = [] }} (λ x xl. absurd (omega arith))
-      (more {p = record { vertex = second f; entries = first ∷ [] }} (λ x xl. let e : x ≡ 0 = omega arith in rw e (omega (arith, t.kept.some)))
-      (within-lines f (λ d dl. t.kept.nbrs d dl) order.rest order.lines)))
+      (more {p = record { vertex = second f; entries = first ∷ [] }} (λ x xl. let e : x ≡ 0 = omega arith in rw e (omega (arith, net.kept.some)))
+      (within-lines f net.kept.nbrs order.rest order.lines)))
 
   module _ {ver ln ent : List ℕ} {s : ℕ} (a : AllNumbered f ver ln ent s) where
     ver_is : take n ver ≡ vs
-    ver_is = sym (vertices_in ver ln 0 n (drop s ent) (omega (arith, a.ver_size, n_byte t))) ∙ ap vertices a.all
+    ver_is = sym (vertices_in ver ln 0 n (drop s ent) (omega (arith, a.ver_size, net.kept.byte))) ∙ ap vertices a.all
 
     ver_at : (x : ℕ) → x < n → get_or vs x 0 ≡ get_or ver x 0
     ver_at x xl = ap (λ l. get_or l x 0) (sym ver_is) ∙ get_or-take n ver x 0 xl
 
-    -- vertices are bytes less 1, and none stands twice
-    pub ver_small : (x : ℕ) → x < n → get_or ver x 0 < 255
-    ver_small x xl = omega (arith, sym (ver_at x xl), order.are_vertices x xl, n_byte t)
-
+    -- none stands twice
     pub ver_apart : Apart ver n
     ver_apart x y xl yl e = order.once x y (omega (arith, order.count_is)) (omega (arith, order.count_is)) (ver_at x xl ∙ e ∙ sym (ver_at y yl))
 
-    -- THE LIST
-    pub list_is : map suc (take n ver) ≡ vertex_list (points f)
-    list_is = ap (map suc) ver_is
+    vs-length : length vs ≡ n
+    vs-length = order.count_is
 
-    module _ {num : List ℕ} (p : Positions ver n num) where
-      num_is : (v : ℕ) → v < n → get_or num v 0 ≡ point_of vs v
-      num_is v vl =
-          let x : ℕ = index_of v vs in
-          let w = order.every v vl in
-          ap (λ v. get_or num v 0) (sym w.1 ∙ ver_at x w.0) ∙ p.here x w.0 ∙ add-one x
+    points-bytes : bytes_of (points_words vs ln 0 n (drop s ent)) ≡ records vs (points f)
+    points-bytes = records_in vs ver ln 0 n (drop s ent) ∙ ap (records vs) a.all
 
-      points-bytes : bytes_of (points_words num ln 0 n (drop s ent)) ≡ records vs (points f)
-      points-bytes =
-          records_in vs num ver ln n 0 n (drop s ent) num_is (subst (Within n) (sym a.all) within) ∙ ap (records vs) a.all
+    -- THE ORDER FILE
+    order_is : bytes_of (order_words vs ln (drop s ent)) ≡ order_file n (points f)
+    unfolding order_file
+    order_is =
+        rw vs-length
+        (bytes_append (order_mark ∷ n ∷ []) (points_words vs ln 0 n (drop s ent) ++ (end_mark ∷ [])) ∙
+        ap (λ t. bytes_of (order_mark ∷ n ∷ []) ++ t) (bytes_append (points_words vs ln 0 n (drop s ent)) (end_mark ∷ []) ∙ ap (λ t. t ++ bytes_of (end_mark ∷ [])) points-bytes))
 
-      -- THE ORDER FILE
-      pub order_is : bytes_of (order_words n num ln (drop s ent)) ≡ order_file n (points f)
-      unfolding order_file
-      order_is =
-          bytes_append (order_mark ∷ n ∷ []) (points_words num ln 0 n (drop s ent) ++ (end_mark ∷ [])) ∙
-          ap (λ t. bytes_of (order_mark ∷ n ∷ []) ++ t) (bytes_append (points_words num ln 0 n (drop s ent)) (end_mark ∷ []) ∙ ap (λ t. t ++ bytes_of (end_mark ∷ [])) points-bytes)
+    -- and its room
+    order-room : 2 * length (order_words vs ln (drop s ent)) + 6 ≡ 10 * n
+    order-room = omega (arith, length-bytes (order_words vs ln (drop s ent)), ap length order_is, order-size)
 
-      -- and its room
-      pub order-room : 2 * length (order_words n num ln (drop s ent)) + 6 ≡ 10 * n
-      order-room = omega (arith, length-bytes (order_words n num ln (drop s ent)), ap length order_is, order-size)
+    -- ---- writing both, with b as the vertices by point
 
-  -- ---- writing both
+    module _ {b : List ℕ} (e : b ≡ take n ver) where
+      same : b ≡ vs
+      same = e ∙ ver_is
 
-  module _ {ver ln ent num : List ℕ} {s m : ℕ} (a : NumberedIn f ver ln ent num s) (e : m ≡ n) where
-    -- the arrays are ready, where there is room
-    pub puttable : {order list : List ℕ} → 10 * n ≤ length order + 6 → n ≤ length list → Puttable order list m ver ln ent s num
-    puttable {order} {list} b c =
-        subst (λ k. Puttable order list k ver ln ent s num) (sym e)
-        (record {
-          byte = n_byte t;
-          ver_size = a.numbered.ver_size;
-          ent_size = a.numbered.ent_size;
-          start = a.numbered.s_in_lem;
-          fits = a.numbered.fitting;
-          small = ver_small a.numbered;
-          order-room = omega (arith, order-room a.numbered a.positions);
-          list-room = c;
-        })
+      -- the points are ready, where there is room
+      pub puttable : {order list : List ℕ} → 10 * n ≤ length order + 6 → n ≤ length list → Puttable order list b ln ent s
+      puttable {order = o} {list} r q =
+          subst (λ b. Puttable o list b ln ent s) (sym same)
+          (record {
+            ent_size = a.ent_size;
+            start = a.s_in_lem;
+            fits = rw vs-length a.fitting;
+            known = rw vs-length (known_in vs ver ln n 0 n (drop s ent) (λ v vl. omega (arith, (order.every v vl).0, vs-length)) (subst (Within n) (sym a.all) within));
+            small = λ i il. omega (arith, order.are_vertices i (omega (arith, il, vs-length)), net.kept.byte);
+            order-room = omega (arith, order-room);
+            list-room = omega (arith, vs-length);
+          })
 
-    -- and what is written is both outputs
-    pub order-stored : {order order' : List ℕ} → Stored order 0 (bytes_of (order_words m num ln (drop s ent))) order' → Stored order 0 (order_file n (points f)) order'
-    order-stored {order} {order'} h =
-        subst (λ bs. Stored order 0 bs order') (ap (λ k. bytes_of (order_words k num ln (drop s ent))) e ∙ order_is a.numbered a.positions) h
+      -- and what is written is both outputs
+      pub order-stored : {order order' : List ℕ} → Stored order 0 (bytes_of (order_words b ln (drop s ent))) order' → Stored order 0 (order_file n (points f)) order'
+      order-stored {order = o} {order'} h =
+          subst (λ bs. Stored o 0 bs order') (ap (λ b. bytes_of (order_words b ln (drop s ent))) same ∙ order_is) h
 
-    pub list-stored : {list list' : List ℕ} → Stored list 0 (map suc (take m ver)) list' → Stored list 0 (vertex_list (points f)) list'
-    list-stored {list} {list'} h = subst (λ bs. Stored list 0 bs list') (ap (λ k. map suc (take k ver)) e ∙ list_is a.numbered) h
+      pub list-stored : {list list' : List ℕ} → Stored list 0 (map suc b) list' → Stored list 0 (vertex_list (points f)) list'
+      list-stored {list} {list'} h = subst (λ bs. Stored list 0 bs list') (ap (map suc) same) h

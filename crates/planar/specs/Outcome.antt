@@ -1,20 +1,25 @@
 -- What an import answers, and what its two buffers hold afterwards.
-use Rattle.std.specs.Prelude.{ℕ, ◌<◌, ◌≤◌, ◌≡◌, refl, Bool, true, false, List, length, ltb, if◌then◌else◌}
+use Rattle.std.specs.Prelude.{ℕ, ◌<◌, ◌≤◌, ◌≡◌, refl, Bool, true, false, List, length, ltb, if◌then◌else◌, Result as Outcome, Ok, Err}
 use Rattle.std.proofs.Common.{sym, subst, lt-ltb, le-ltb}
-use Rattle.rules.specs.declared.Refusal.{Refusal}
-use Rattle.rules.specs.Refusals.{Result, good, refused, told}
+use Rattle.rules.specs.declared.Refused.{Refused}
+use Rattle.rules.specs.Refusals.{Result, good, refused, refusal_at, told}
 use Rattle.rules.specs.Output.{filled}
-use Rattle.answers.specs.declared.Imported.{Imported}
-use Rattle.answers.specs.declared.Imported.TheVariants.{Sizes, OrderShort, ListShort, Refused}
+use Rattle.answers.specs.declared.Sizes.{Sizes}
+use Rattle.answers.specs.declared.NotImported.{NotImported}
 use Rattle.answers.specs.Told.{told_imported}
 use Rattle.words.specs.Writing.{Stored, stored-filled}
 use Rattle.planar_rules.specs.PlanarCode.{Import, imported, room_for_both, order_of, list_of, sizes_of}
 
--- the case for what the rules give, with buffers of these lengths
+abbrev pub Imported : Type 0
+Imported = Outcome Sizes NotImported
+
+-- the answer for what the rules give, with buffers of these lengths
 abbrev pub imported_for : ℕ → ℕ → Result Import → Imported
-imported_for order list (refused r p) = Refused r p
+imported_for order list (refused r p) = Err (NotImported.Refused (refusal_at r p))
 imported_for order list (good i) =
-    if ltb order (length i.order) then OrderShort else if ltb list (length i.list) then ListShort else Sizes (length i.order) (length i.list)
+    if ltb order (length i.order) then Err NotImported.OrderShort
+    else if ltb list (length i.list) then Err NotImported.ListShort
+    else Ok (record { order = length i.order; list = length i.list })
 
 -- `wanted` was to be written into the two buffers: a refusal changes no byte of either, and bytes past the written ones stay
 pub record Fills (wanted : Result Import) (order list order' list' : List ℕ) (r : Imported) : Type 0 where
@@ -43,16 +48,16 @@ fills_as {order = order} {list} {order'} {list'} {r} e h = subst (λ w. Fills w 
 
 module _ {wanted : Result Import} {order list : List ℕ} where
   -- 14 or 15
-  pub fills_none : (r : Refusal) (p : ℕ) → wanted ≡ refused r p → Fills wanted order list order list (Refused r p)
-  fills_none r p e = rw e (record { answer = refl; orders = refl; lists = refl })
+  pub fills_none : (r : Refused) → wanted ≡ refused r.refusal r.place → Fills wanted order list order list (Err (NotImported.Refused r))
+  fills_none r e = rw e (record { answer = refl; orders = refl; lists = refl })
 
   module _ (i : Import) (e : wanted ≡ good i) where
     -- 24 of the order file's buffer
-    pub fills_no_order : length order < length i.order → Fills wanted order list order list OrderShort
+    pub fills_no_order : length order < length i.order → Fills wanted order list order list (Err NotImported.OrderShort)
     fills_no_order b = let t = lt-ltb (length order) (length i.order) b in rw e (record { answer = rw t; orders = rw t; lists = rw t })
 
     -- 24 of the list's
-    pub fills_no_list : length i.order ≤ length order → length list < length i.list → Fills wanted order list order list ListShort
+    pub fills_no_list : length i.order ≤ length order → length list < length i.list → Fills wanted order list order list (Err NotImported.ListShort)
     fills_no_list b c =
         let t = le-ltb (length order) (length i.order) b in
         let u = lt-ltb (length list) (length i.list) c in
@@ -60,7 +65,7 @@ module _ {wanted : Result Import} {order list : List ℕ} where
 
     -- both are written
     pub fills_both : {order' list' : List ℕ} {o l : ℕ} → length i.order ≤ length order → length i.list ≤ length list → o ≡ length i.order → l ≡ length i.list →
-        Stored order 0 i.order order' → Stored list 0 i.list list' → Fills wanted order list order' list' (Sizes o l)
+        Stored order 0 i.order order' → Stored list 0 i.list list' → Fills wanted order list order' list' (Ok (record { order = o; list = l }))
     fills_both b c p q f g =
         let t = le-ltb (length order) (length i.order) b in
         let u = le-ltb (length list) (length i.list) c in

@@ -1,96 +1,80 @@
--- The test for chords, over the program's arrays: v stands at pos v on the boundary, from 1, or pos v is 0.
-use Rattle.std.specs.Prelude.{ℕ, zero, suc, ◌+◌, ◌-◌, ◌<◌, ◌≤◌, ◌≡◌, refl, ◌≢◌, ◌⊎◌, List, Bool, true, false, get_or, eqb, if◌then◌else◌}
-use Rattle.std.proofs.Common.{ap, sym, ◌∙◌, inl, inr, arith, add-one, eq-eqb, ne_eqb, eqb-true}
-use Rattle.std.proofs.Math.Decide.{ℕ_discrete}
-use Rattle.planar_rules.specs.PlanarCode.{Flat, all}
+-- The test for chords, over the list of a vertex.
+use Rattle.std.specs.Prelude.{ℕ, ◌+◌, ◌-◌, ◌<◌, ◌≤◌, ◌≡◌, refl, ◌⊎◌, List, [], Option, Some, None, Bool, true, false, ◌||◌, length, get_or, eqb}
+use Rattle.std.proofs.Common.{ap, sym, ◌∙◌, inl, inr, arith, eq-eqb, eqb-true}
+use Rattle.rules.specs.Basics.{index_of}
+use Rattle.rules.specs.Indices.{index_at}
+use Rattle.planar_rules.specs.PlanarCode.{Flat, all, free?}
 use Rattle.planar_sphere.proofs.Check.{all_true, true_all}
 use Rattle.planar_sphere.specs.Flat.{Listed}
-use Rattle.planar_sphere.specs.Program.{State, Free}
+use Rattle.planar_sphere.specs.Program.{Free}
+use Rattle.planar_order.specs.Model.{Distinct, index_is}
+use Rattle.planar_order.specs.Step.{state_of, free-yes, yes-free}
+use Rattle.planar_judging.specs.Laws.{same_bool}
+use Rattle.planar_choosing.specs.Rows.{found_index, found_at, index_some}
 
--- a line to the vertex that stands at q, or to none on the boundary where q is 0, is no chord of the t-th vertex:
--- that one stands at t + 1, so those at t and t + 2 are beside it
-abbrev pub no_chord? : ℕ → ℕ → Bool
-no_chord? q t = if eqb q 0 then true else if eqb q t then true else eqb q (t + 2)
+-- a line to one that stands nowhere is no chord of the t-th vertex, nor is one to those at t - 1 and t + 1, which are beside it
+abbrev pub beside? : Option ℕ → ℕ → Bool
+beside? None t = true
+beside? (Some l) t = eqb l (t + 1) || eqb (l + 1) t
 
--- the line k places behind lo is no chord of the t-th vertex
-abbrev pub no_chord_at? : List ℕ → List ℕ → ℕ → ℕ → ℕ → Bool
-no_chord_at? nbr pos lo t k = no_chord? (get_or pos (get_or nbr (lo + k) 0) 0) t
+abbrev pub no_chord? : List ℕ → ℕ → ℕ → Bool
+no_chord? b t u = beside? (found_index b u) t
 
--- none of len lines from place lo on is one
-unfoldable pub free_in : List ℕ → List ℕ → ℕ → ℕ → ℕ → Bool
-free_in nbr pos lo len t = all (no_chord_at? nbr pos lo t) len
+-- none of the lines to those in the list is one
+unfoldable pub free_in : List ℕ → List ℕ → ℕ → Bool
+free_in list b t = all (λ k. no_chord? b t (get_or list k 0)) (length list)
 
--- ---- one test
-
-module _ (q t : ℕ) where
-  -- off the boundary, before the t-th vertex, or neither: then behind it
-  pub no_chord_off : q ≡ 0 → true ≡ no_chord? q t
-  no_chord_off e = rw (eq-eqb q 0 e)
-
-  pub no_chord_before : q ≢ 0 → q ≡ t → true ≡ no_chord? q t
-  no_chord_before d e = rw (ne_eqb q 0 d, eq-eqb q t e)
-
-  pub no_chord_behind : q ≢ 0 → q ≢ t → eqb q (t + 2) ≡ no_chord? q t
-  no_chord_behind d d' = rw (ne_eqb q 0 d, ne_eqb q t d')
-
--- the three ways to pass it
-abbrev NoChord : ℕ → ℕ → Type 0
-NoChord q t = (q ≡ 0) ⊎ ((q ≡ t) ⊎ (q ≡ t + 2))
-
--- the test passes in these ways, and in no other
-no_chord-yes : (q t : ℕ) → no_chord? q t ≡ true → NoChord q t
-no_chord-yes q t = go (eqb q 0) refl (eqb q t) refl
+-- the test passes if it is none, and in no other case
+beside-yes : (l t : ℕ) → (eqb l (t + 1) || eqb (l + 1) t) ≡ true → (l ≡ t + 1) ⊎ (l + 1 ≡ t)
+beside-yes l t = go (eqb l (t + 1)) refl
   where
-    go : (a : Bool) → eqb q 0 ≡ a → (b : Bool) → eqb q t ≡ b → (if a then true else if b then true else eqb q (t + 2)) ≡ true → NoChord q t
-    go true e b e' z = inl (eqb-true _ _ e)
-    go false e true e' z = inr (inl (eqb-true _ _ e'))
-    go false e false e' z = inr (inr (eqb-true _ _ z))
+    go : (a : Bool) → eqb l (t + 1) ≡ a → (a || eqb (l + 1) t) ≡ true → (l ≡ t + 1) ⊎ (l + 1 ≡ t)
+    go true e z = inl (eqb-true _ _ e)
+    go false e z = inr (eqb-true _ _ z)
 
-yes_no_chord : (q t : ℕ) → NoChord q t → no_chord? q t ≡ true
-yes_no_chord q t h = elim (ℕ_discrete q 0) [
-  | yes e ↦ sym (no_chord_off q t e)
-  | no d ↦ elim (ℕ_discrete q t) [ yes e ↦ sym (no_chord_before q t d e) | no d' ↦ sym (no_chord_behind q t d d') ∙ eq-eqb q (t + 2) (last d d' h) ]
-]
+yes_beside : (l t : ℕ) → (l ≡ t + 1) ⊎ (l + 1 ≡ t) → (eqb l (t + 1) || eqb (l + 1) t) ≡ true
+yes_beside l t (inl e) = rw (eq-eqb l (t + 1) e)
+yes_beside l t (inr e) = rw (eq-eqb (l + 1) t e) (or_true (eqb l (t + 1)))
   where
-    last : q ≢ 0 → q ≢ t → NoChord q t → q ≡ t + 2
-    last d d' (inl e) = absurd (d e)
-    last d d' (inr (inl e)) = absurd (d' e)
-    last d d' (inr (inr e)) = e
+    or_true : (a : Bool) → (a || true) ≡ true
+    or_true true = refl
+    or_true false = refl
 
 -- ---- all of a vertex's lines
 
--- where the test passes, the rules' does ..
-pub free :
-    (f : Flat) (s : State) → Listed f → (nbr pos : List ℕ) (t : ℕ) → ((d : ℕ) → d < f.D → f.nbr d ≡ get_or nbr d 0) →
-    ((x : ℕ) → x < s.m → get_or pos (s.w x) 0 ≡ x + 1) →
-    free_in nbr pos (f.off (s.w t)) (f.off (s.w t + 1) - f.off (s.w t)) t ≡ true → Free f s t
-unfolding free_in
-free f s li nbr pos t en ep z d l dl ll o q =
-    let a : f.off (s.w t) ≤ d = omega (arith, li.from d dl, ap f.off o) in
-    let b : d < f.off (s.w t + 1) = omega (arith, li.upto d dl, ap (λ v. f.off (v + 1)) o) in
-    let k : ℕ = d - f.off (s.w t) in
-    let i : f.off (s.w t) + k ≡ d = omega arith in
-    let y = all_true (no_chord_at? nbr pos (f.off (s.w t)) t) (f.off (s.w t + 1) - f.off (s.w t)) z k (omega arith) in
-    go (no_chord-yes _ t y) (ap (λ i. get_or pos (get_or nbr i 0) 0) i ∙ ap (λ i. get_or pos i 0) (sym (en d dl) ∙ q) ∙ ep l ll)
-  where
-    go : {x : ℕ} → NoChord x t → x ≡ l + 1 → (l ≡ t + 1) ⊎ (l + 1 ≡ t)
-    go (inl i) e = absurd (omega arith)
-    go (inr (inl i)) e = inr (omega arith)
-    go (inr (inr i)) e = inl (omega arith)
+-- the test over its list is the rules'
+module _ (f : Flat) (li : Listed f) (b : List ℕ) (di : Distinct b) (t : ℕ) (tl : t < length b) (vn : get_or b t 0 < f.n) (list : List ℕ)
+    (size : length list ≡ f.off (get_or b t 0 + 1) - f.off (get_or b t 0)) (at : (k : ℕ) → k < length list → get_or list k 0 ≡ f.nbr (f.off (get_or b t 0) + k)) where
+  abbrev v : ℕ
+  v = get_or b t 0
 
--- .. and back: so the program finds the vertex that is there
-pub free_back :
-    (f : Flat) (s : State) → Listed f → (nbr pos : List ℕ) (t : ℕ) → s.w t < f.n → ((d : ℕ) → d < f.D → f.nbr d ≡ get_or nbr d 0) →
-    ((v x : ℕ) → get_or pos v 0 ≡ x + 1 → (x < s.m) × (s.w x ≡ v)) →
-    Free f s t → free_in nbr pos (f.off (s.w t)) (f.off (s.w t + 1) - f.off (s.w t)) t ≡ true
-unfolding free_in
-free_back f s li nbr pos t wn en ep fr =
-    true_all (no_chord_at? nbr pos (f.off (s.w t)) t) (f.off (s.w t + 1) - f.off (s.w t)) (λ k kl.
-    let w = li.within (s.w t) (f.off (s.w t) + k) wn (omega arith) (omega arith) in
-    yes_no_chord _ t (go (f.off (s.w t) + k) w.0 w.1 (get_or pos (get_or nbr (f.off (s.w t) + k) 0) 0) refl))
-  where
-    go : (d : ℕ) → d < f.D → f.own d ≡ s.w t → (q : ℕ) → get_or pos (get_or nbr d 0) 0 ≡ q → NoChord q t
-    go d dl o zero e = inl refl
-    go d dl o (suc x) e =
-        let y = ep (get_or nbr d 0) x (e ∙ sym (add-one x)) in
-        elim (fr d x dl y.0 o (en d dl ∙ sym y.1)) [ inl i ↦ inr (inr (omega arith)) | inr i ↦ inr (inl (omega arith)) ]
+  passes : free_in list b t ≡ true → Free f (state_of b []) t
+  unfolding free_in
+  passes z d l dl ll o q =
+      let a : f.off v ≤ d = omega (arith, li.from d dl, ap f.off o) in
+      let c : d < f.off (v + 1) = omega (arith, li.upto d dl, ap (λ v. f.off (v + 1)) o) in
+      let k : ℕ = d - f.off v in
+      let i : f.off v + k ≡ d = omega arith in
+      let kl : k < length list = omega (arith, size) in
+      let u : get_or list k 0 ≡ get_or b l 0 = at k kl ∙ ap f.nbr i ∙ q in
+      let s : index_of (get_or b l 0) b ≡ l = index_is b di l ll in
+      let e : found_index b (get_or list k 0) ≡ Some l = ap (found_index b) u ∙ found_at b (get_or b l 0) (omega (arith, s)) ∙ ap (λ i. Some i) s in
+      let y = all_true (λ k. no_chord? b t (get_or list k 0)) (length list) z k kl in
+      beside-yes l t (ap (λ o. beside? o t) (sym e) ∙ y)
+
+  passed : Free f (state_of b []) t → free_in list b t ≡ true
+  unfolding free_in
+  passed fr =
+      true_all (λ k. no_chord? b t (get_or list k 0)) (length list) (λ k kl.
+      let w = li.within v (f.off v + k) vn (omega arith) (omega (arith, size)) in
+      one (f.off v + k) w.0 w.1 (get_or list k 0) (at k kl) (found_index b (get_or list k 0)) refl)
+    where
+      one : (d : ℕ) → d < f.D → f.own d ≡ v → (u : ℕ) → u ≡ f.nbr d → (o : Option ℕ) → found_index b u ≡ o → beside? o t ≡ true
+      one d dl o u e None h = refl
+      one d dl o u e (Some l) h =
+          let w = index_some b u h in
+          let q : get_or b l 0 ≡ u = ap (λ i. get_or b i 0) (sym w.0) ∙ index_at u b (omega (arith, w)) in
+          yes_beside l t (fr d l dl w.1 o (sym e ∙ sym q))
+
+  pub free_is : free_in list b t ≡ free? f b t
+  free_is = same_bool _ _ (λ h. yes-free f b [] t (passes h)) (λ h. passed (free-yes f b [] t h))

@@ -1,13 +1,13 @@
 -- Laws of the tests, one step at a time.
-use Prim.Native.Nat.{ℕ, zero, suc, ◌+◌, ◌-◌, ◌<◌, ◌≤◌}
-use Rattle.std.specs.Prelude.{◌≡◌, ◌≢◌, List, Bool, true, false, not, ◌&&◌, ◌||◌, length, get_or, set, replicate, eqb, leb, if◌then◌else◌}
+use Prim.Native.Nat.{ℕ, ◌+◌, ◌<◌, ◌≤◌}
+use Rattle.std.specs.Prelude.{◌≡◌, ◌≢◌, List, Bool, true, false, not, ◌&&◌, ◌||◌, length, get_or, set, eqb, if◌then◌else◌}
 use Rattle.std.proofs.Math.Path.{refl, ap}
 use Rattle.std.proofs.Common.{sym, ◌∙◌, inl, inr, arith, add-one, length-set, get_or-set_same, get_or-set_other}
 use Rattle.std.proofs.Math.Decide.{ℕ_discrete, dec_le}
-use borrow.Author.Tests.{eq-eqb, ne_eqb, eqb-true, le-leb, lt-leb}
+use borrow.Author.Tests.{eq-eqb, ne_eqb, eqb-true}
 use Rattle.rules.specs.Bools.{both}
-use Rattle.planar_rules.specs.PlanarCode.{Flat, all, seek, after, place, back, not_self?, not_twice?, in_both?, merge, labels, joined?, counted?, side, faces?, taken?}
-use Rattle.planar_judging.specs.Arrays.{flat_of, Kept, Backs, after_in, Relabelled}
+use Rattle.planar_rules.specs.PlanarCode.{Flat, all, after, back, not_self?, not_twice?, in_both?, merge, labels, joined?, counted?, side, faces?, taken?}
+use Rattle.planar_reading.specs.Arrays.{Kept}
 use Rattle.planar_sphere.specs.Count.{bool, clash}
 use Rattle.planar_sphere.specs.Flat.{Listed, after_both}
 use Rattle.planar_sphere.proofs.Check.{true_and, or_not, not_or, all_true, true_all}
@@ -44,81 +44,7 @@ same_bool true false f g = sym (f refl)
 same_bool false true f g = g refl
 same_bool false false f g = refl
 
--- ---- the place of u in a list
-
--- place e is not below lo, and names u
-abbrev pub in_list : List ℕ → ℕ → ℕ → ℕ → Bool
-in_list nbr u lo e = leb lo e && eqb (get_or nbr e 0) u
-
--- the highest such place below hi, or z
-unfoldable pub seek_in : List ℕ → ℕ → ℕ → ℕ → ℕ → ℕ
-seek_in nbr u z lo hi = seek (in_list nbr u lo) z hi
-
--- what the code's e - 1 comes to
-suc_less : (e : ℕ) → suc e - 1 ≡ e
-suc_less e = omega arith
-
--- from e down: the place below e names u, it doesn't, or there is none
-module _ (nbr : List ℕ) (u z lo : ℕ) where
-  pub seek_found : (e : ℕ) → lo < e → get_or nbr (e - 1) 0 ≡ u → seek_in nbr u z lo e ≡ e - 1
-  unfolding seek_in seek
-  seek_found zero l q = absurd (omega arith)
-  seek_found (suc e) l q = rw (suc_less e, le-leb lo e (omega arith), eq-eqb _ _ (rw (suc_less e) at q))
-
-  pub seek_on : (e : ℕ) → lo < e → (get_or nbr (e - 1) 0 ≡ u → ⊥) → seek_in nbr u z lo e ≡ seek_in nbr u z lo (e - 1)
-  unfolding seek_in seek
-  seek_on zero l q = absurd (omega arith)
-  seek_on (suc e) l q = rw (suc_less e, le-leb lo e (omega arith), ne_eqb _ _ (rw (suc_less e) at q))
-
-  pub seek_none : (e : ℕ) → e ≤ lo → seek_in nbr u z lo e ≡ z
-  unfolding seek_in seek
-  seek_none zero l = refl
-  seek_none (suc e) l = rw (lt-leb lo e (omega arith)) (seek_none e (omega arith))
-
--- what finds nothing from hi on may begin there
-seek-skip : (p : ℕ → Bool) (z hi k : ℕ) → ((x : ℕ) → hi ≤ x → x < hi + k → p x ≡ false) → seek p z (hi + k) ≡ seek p z hi
-unfolding seek
-seek-skip p z hi zero h = let e : hi + 0 ≡ hi = omega arith in rw e
-seek-skip p z hi (suc k) h =
-    let e : hi + suc k ≡ suc (hi + k) = omega arith in
-    rw (e, h (hi + k) (omega arith) (omega arith)) (seek-skip p z hi k (λ x a b. h x a (omega arith)))
-
--- tests that agree find the same
-seek_same : (p q : ℕ → Bool) (z n : ℕ) → ((x : ℕ) → x < n → p x ≡ q x) → seek p z n ≡ seek q z n
-unfolding seek
-seek_same p q z zero h = refl
-seek_same p q z (suc n) h = rw (h n (omega arith), seek_same p q z n (λ x l. h x (omega arith)))
-
--- only v's own list can have it
-pub place_is :
-    (f : Flat) (nbr : List ℕ) → ((d : ℕ) → f.nbr d ≡ get_or nbr d 0) → Listed f → (v u : ℕ) → v < f.n → f.off (v + 1) ≤ f.D →
-    place f v u ≡ seek_in nbr u f.D (f.off v) (f.off (v + 1))
-unfolding place seek_in
-place_is f nbr e l v u vn h =
-    let k : ℕ = f.D - f.off (v + 1) in
-    let q : f.off (v + 1) + k ≡ f.D = omega arith in
-    let p : ℕ → Bool = λ d. eqb (f.own d) v && eqb (f.nbr d) u in
-    ap (seek p f.D) (sym q) ∙
-    seek-skip p f.D (f.off (v + 1)) k (λ x a b. other x (omega arith) a) ∙
-    seek_same p (in_list nbr u (f.off v)) f.D (f.off (v + 1)) (λ x xl. same x (omega arith) xl)
-  where
-    other : (x : ℕ) → x < f.D → f.off (v + 1) ≤ x → (eqb (f.own x) v && eqb (f.nbr x) u) ≡ false
-    other x xl a = rw (ne_eqb (f.own x) v (λ o. omega (arith, l.upto x xl, ap (λ v. f.off (v + 1)) o)))
-
-    same : (x : ℕ) → x < f.D → x < f.off (v + 1) → (eqb (f.own x) v && eqb (f.nbr x) u) ≡ in_list nbr u (f.off v) x
-    same x xl xh =
-        elim (dec_le (f.off v) x) [
-          | yes a ↦ rw (eq-eqb (f.own x) v (l.within v x vn a xh).1, le-leb (f.off v) x a, e x)
-          | no a ↦ rw (ne_eqb (f.own x) v (λ o. omega (arith, a, l.from x xl, ap f.off o)), lt-leb (f.off v) x (omega (arith, a)))
-        ]
-
 -- ---- no vertex twice: marks of what the list has named
-
--- an array of zeros has 0 at every index
-pub zeros : (n u : ℕ) → get_or {A = ℕ} (replicate n 0) u 0 ≡ 0
-zeros zero u = refl
-zeros (suc n) zero = refl
-zeros (suc n) (suc u) = zeros n u
 
 -- two places stand in one list and name one vertex
 abbrev same? : Flat → ℕ → ℕ → Bool
@@ -236,22 +162,23 @@ set_more l h i x il p e k kl =
 
 -- ---- the sides of a face
 
-module _ {n D : ℕ} {off own nbr bk : List ℕ} (k : Kept n D off own nbr) (b : Backs (flat_of n D off own nbr) bk) where
-  abbrev f : Flat
-  f = flat_of n D off own nbr
+-- bk has the place of the same line in the other list
+pub record Backs (f : Flat) (bk : List ℕ) : Type 0 where
+  pub is : (d : ℕ) → d < f.D → get_or bk d 0 ≡ back f d
+  pub within : (d : ℕ) → d < f.D → back f d < f.D
 
+module _ {f : Flat} {bk : List ℕ} (k : Kept f) (b : Backs f bk) where
   -- what `side_of` asks, and what it gives
-  pub side_asks : {d : ℕ} → d < D → (d < 1536) × (get_or bk d 0 < 1536)
+  pub side_asks : {d : ℕ} → d < f.D → (d < 1536) × (get_or bk d 0 < 1536)
   side_asks {d} l = (omega (arith, k.few), omega (arith, b.is d l, b.within d l, k.few))
 
-  pub side-gives : {d x : ℕ} → d < D → x ≡ after_in off own (get_or bk d 0) → (x ≡ side f d) × (x < D)
-  unfolding after
+  pub side-gives : {d x : ℕ} → d < f.D → x ≡ after f (get_or bk d 0) → (x ≡ side f d) × (x < f.D)
   side-gives {d} {x} l e =
-      let q : x ≡ side f d = e ∙ ap (after_in off own) (b.is d l) in (q, rw q (after_both k.listed (back f d) (b.within d l)).0)
+      let q : x ≡ side f d = e ∙ ap (after f) (b.is d l) in (q, rw q (after_both k.listed (back f d) (b.within d l)).0)
 
   -- three times
   pub three-sides :
-      {i x y z : ℕ} → i < D → x ≡ after_in off own (get_or bk i 0) → y ≡ after_in off own (get_or bk x 0) → z ≡ after_in off own (get_or bk y 0) →
+      {i x y z : ℕ} → i < f.D → x ≡ after f (get_or bk i 0) → y ≡ after f (get_or bk x 0) → z ≡ after f (get_or bk y 0) →
       z ≡ side f (side f (side f i))
   three-sides l p q r =
       let a = side-gives l p in
@@ -259,6 +186,12 @@ module _ {n D : ℕ} {off own nbr bk : List ℕ} (k : Kept n D off own nbr) (b :
       (side-gives c.1 r).0 ∙ ap (side f) (c.0 ∙ ap (side f) a.0)
 
 -- ---- labels
+
+-- those below n that had label a have label b now
+pub record Relabelled (n a b : ℕ) (old new : List ℕ) : Type 0 where
+  pub same : length new ≡ length old
+  pub done : (x : ℕ) → x < n → get_or new x 0 ≡ (if eqb (get_or old x 0) a then b else get_or old x 0)
+  pub rest : (x : ℕ) → n ≤ x → get_or new x 0 ≡ get_or old x 0
 
 -- none is given another yet, the next one is, or it stays
 pub relabel_none : (a b : ℕ) (l : List ℕ) → Relabelled 0 a b l l

@@ -1,59 +1,42 @@
 -- The next point: the vertex that comes off, its entries, and the boundary without it.
-use Prim.Native.Nat.{ℕ, zero, suc, ◌+◌, ◌-◌, ◌<◌, ◌≤◌}
-use Rattle.std.specs.Prelude.{◌≡◌, refl, List, ◌∷◌, ◌++◌, Bool, get_or, take, drop, set}
+use Prim.Native.Nat.{ℕ, suc, ◌+◌, ◌-◌, ◌<◌, ◌≤◌}
+use Rattle.std.specs.Prelude.{◌≡◌, refl, List, ◌∷◌, ◌++◌, Option, Some, IsSome, get_or, take, drop, set}
 use Rattle.std.proofs.Math.Path.{ap}
-use Rattle.std.proofs.Common.{sym, ◌∙◌, get_or-take, length-take-le, take_at}
+use Rattle.std.proofs.Common.{subst, sym, ◌∙◌, take_at, lt-ltb}
 use native.Mathlib.Omega.{arith}
 use Rattle.std.proofs.Math.ListN.{length, length-set}
 use Rattle.rules.specs.Basics.{index_of}
 use Rattle.rules.specs.Indices.{index_at}
-use Rattle.planar_rules.specs.PlanarCode.{Flat, place, run, lowest, open?, next, Point, point_at, comes_off, without, number}
+use Rattle.planar_rules.specs.PlanarCode.{Flat, place, run, next, Point, point_at, comes_off, without, number}
 use Rattle.planar_sphere.specs.Count.{count}
 use Rattle.planar_sphere.specs.Arc.{turn_in}
-use Rattle.planar_sphere.specs.Flat.{Listed, bound, Valid}
-use Rattle.planar_sphere.proofs.Check.{good, net_of_lem}
+use Rattle.planar_sphere.specs.Flat.{Listed, Valid}
+use Rattle.planar_sphere.proofs.Check.{net_of_lem}
 use Rattle.planar_sphere.specs.Program.{Is, Free}
 use Rattle.planar_order.specs.Seqs.{new_length}
 use Rattle.planar_order.specs.Model.{Distinct}
 use Rattle.planar_order.specs.Step.{among, state_of, apart, in_net, is_open, free-yes, its_arc, placed, hit, no_hit, p_in, p_some, E-length}
 use Rattle.planar_order.specs.Numbering.{Going, total}
 use Rattle.planar_order.proofs.Numbering.{goes_on, fits}
-use Rattle.planar_judging.specs.Arrays.{flat_of}
-use Rattle.planar_choosing.specs.Choosing.{Apart, Within, open_in, open_is, Chosen}
+use Rattle.planar_choosing.specs.Choosing.{chosen}
 use Rattle.planar_numbering.specs.Gathering.{Gatherable, Gathered}
-use Rattle.planar_numbering.specs.Boundary.{boundary_vertex, boundary_is}
 use Rattle.planar_numbering.specs.Points.{points_from, points-length, points_more, Fitting, fitting_more}
 use Rattle.planar_numbering.specs.Top.{Ready, same_net}
 
--- index k has its point, with len entries before those that stood in ent from s on, and c has the boundary without it
-pub record NextNumbered (f : Flat) (b : List ℕ) (m k : ℕ) (ver ln ent : List ℕ) (s : ℕ) (ver' ln' ent' c' : List ℕ) (len : ℕ) : Type 0 where
-  pub len_is : len ≡ length (comes_off f (take m b)).entries
-  pub len_room : len ≤ s
-  pub m_room : m + len ≤ 258
+-- index k has its point, with its entries before those that stood in ent from s on, and b' is the boundary without it
+pub record NextNumbered (f : Flat) (b : List ℕ) (k : ℕ) (ver ln ent : List ℕ) (s : ℕ) (ver' ln' ent' : List ℕ) (s' : ℕ) (b' : List ℕ) : Type 0 where
+  pub start : s' + length (comes_off f b).entries ≡ s
   pub ver_size : length ver' ≡ 256
   pub ln_size : length ln' ≡ 256
   pub ent_size : length ent' ≡ 768
-  pub c_size : length c' ≡ 256
-  pub boundary : take (m + len - 3) c' ≡ without f (take m b) (index_of (next f (take m b)) (take m b))
-  pub later_is : points_from f.n ver' ln' ent' (s - len) k ≡ comes_off f (take m b) ∷ points_from f.n ver ln ent s (suc k)
-  pub fitting : Fitting ln' k (f.n - k) (drop (s - len) ent')
+  pub boundary : b' ≡ without f b (index_of (next f b) b)
+  pub later_is : points_from f.n ver' ln' ent' s' k ≡ comes_off f b ∷ points_from f.n ver ln ent s (suc k)
+  pub fitting : Fitting ln' k (f.n - k) (drop s' ent')
 
--- the lowest by one test is the lowest by another that says the same
-lowest_same : (p q : ℕ → Bool) (k x : ℕ) → ((v : ℕ) → v < x + k → p v ≡ q v) → lowest p k x ≡ lowest q k x
-unfolding lowest
-lowest_same p q zero x h = refl
-lowest_same p q (suc k) x h = rw (h x (omega arith), lowest_same p q k (suc x) (λ v l. h v (omega arith)))
-
-module _ {n D : ℕ} {off own nbr b : List ℕ} {m k : ℕ} {ver ln ent : List ℕ} {s : ℕ} (r : Ready n D off own nbr b m k ver ln ent s) (k2 : 2 ≤ k) where
-  abbrev f : Flat
-  f = flat_of n D off own nbr
-
-  -- the boundary, the points that have their numbers, and what is known of them
-  abbrev B : List ℕ
-  B = take m b
-
+module _ {f : Flat} {B : List ℕ} {k : ℕ} {ver ln ent : List ℕ} {s : ℕ} (r : Ready f B k ver ln ent s) (k2 : 2 ≤ k) where
+  -- the points that have their numbers, and what is known of them
   abbrev later : List Point
-  later = points_from n ver ln ent s (suc k)
+  later = points_from f.n ver ln ent s (suc k)
 
   abbrev l : Listed f
   l = r.arrays.kept.listed
@@ -61,38 +44,17 @@ module _ {n D : ℕ} {off own nbr b : List ℕ} {m k : ℕ} {ver ln ent : List �
   abbrev valid : Valid f
   valid = r.arrays.valid
 
-  abbrev own0 : get_or own 0 0 ≡ 0
+  abbrev own0 : f.own 0 ≡ 0
   own0 = r.arrays.own0
 
   abbrev is : Is f (state_of B later)
   is = r.going.is
 
-  B-length : length B ≡ m
-  B-length = length-take-le m b (omega (arith, r.arrays.b_size, r.m_in))
-
-  B-at : (x : ℕ) → x < m → get_or B x 0 ≡ get_or b x 0
-  B-at x l = get_or-take m b x 0 l
-
-  later-length : length later ≡ n - suc k
-  later-length = points-length ver ln (suc k) (n - suc k) (drop s ent)
+  later-length : length later ≡ f.n - suc k
+  later-length = points-length ver ln (suc k) (f.n - suc k) (drop s ent)
 
   distinct : Distinct B
   distinct = apart f l valid B later is
-
-  apart_b : Apart b m
-  apart_b x y xl yl e = distinct x y (omega (arith, B-length)) (omega (arith, B-length)) (B-at x xl ∙ e ∙ sym (B-at y yl))
-
-  -- it has no more vertices than the net
-  pub m_small : m ≤ 255
-  m_small = omega (arith, fits f l valid own0 B later r.going, B-length, r.arrays.byte)
-
-  -- what `choose` asks
-  pub choosable : (m ≤ 255) × Apart b m × ((v : ℕ) → v < n → Within off v)
-  choosable = (
-    m_small,
-    apart_b,
-    λ v vn. (omega (arith, bound l (good valid) v vn), omega (arith, r.arrays.kept.offs (v + 1) (omega arith), r.arrays.kept.few)),
-  )
 
   -- ---- the rules' vertex stands at t: it is free, and no end of the boundary
 
@@ -101,7 +63,7 @@ module _ {n D : ℕ} {off own nbr b : List ℕ} {m k : ℕ} {ver ln ent : List �
 
   opened : (0 < t) × (t + 1 < length B) × Free f (state_of B later) t
   opened =
-      let more : count (λ x. among x later) n + 3 ≤ n = omega (arith, r.going.counted, later-length, k2, r.k_in) in
+      let more : count (λ x. among x later) f.n + 3 ≤ f.n = omega (arith, r.going.counted, later-length, k2, r.k_in) in
       let o = is_open f l valid B later is more in
       (o.0, o.1, free-yes f B later t o.2)
 
@@ -114,13 +76,6 @@ module _ {n D : ℕ} {off own nbr b : List ℕ} {m k : ℕ} {ver ln ent : List �
   free : Free f (state_of B later) t
   free = opened.2
 
-  t_in : t + 1 < m
-  t_in = omega (arith, t_end, B-length)
-
-  -- there is one beside it on each side
-  pub m_some : 3 ≤ m
-  m_some = omega (arith, t_in, t_some)
-
   -- ---- its entries
 
   abbrev E : List ℕ
@@ -132,18 +87,18 @@ module _ {n D : ℕ} {off own nbr b : List ℕ} {m k : ℕ} {ver ln ent : List �
   next_going : Going f (without f B t) (comes_off f B ∷ later)
   next_going = goes_on f l valid own0 B later r.going (omega (arith, later-length, k2, r.k_in))
 
-  next_small : length (without f B t) + suc (length later) ≤ n
+  next_small : length (without f B t) + suc (length later) ≤ f.n
   next_small = fits f l valid own0 (without f B t) (comes_off f B ∷ later) next_going
 
   -- there is room for them, and for the new boundary
   E-room : length E ≤ s
   unfolding total
-  E-room = omega (arith, r.room, next_going.total_is, next_small, later-length, r.k_in, k2, r.arrays.byte)
+  E-room = omega (arith, r.room, next_going.total_is, next_small, later-length, r.k_in, k2, r.arrays.kept.byte)
 
-  next_room : m + length E ≤ 258
+  pub next_room : length B + length E ≤ 258
   unfolding without
   next_room =
-      omega (arith, new_length B E (t - 1) (t + 2) (omega arith) (omega (arith, t_end)), B-length, t_some, next_small, r.arrays.byte)
+      omega (arith, new_length B E (t - 1) (t + 2) (omega arith) (omega (arith, t_end)), t_some, next_small, r.arrays.kept.byte)
 
   B-gatherable : Gatherable f (get_or B (t - 1) 0) (place f (get_or B t 0) (get_or B (t + 1) 0)) s
   B-gatherable =
@@ -158,46 +113,46 @@ module _ {n D : ℕ} {off own nbr b : List ℕ} {m k : ℕ} {ver ln ent : List �
         top = omega (arith, r.room);
       }
 
-  -- ---- what the code finds: the vertex v, whose index is q - 1
+  pub next_in : next f B < f.n
+  next_in = rw (sym (index_at (next f B) B (omega (arith, t_end)))) (in_net f l valid B later is t (omega (arith, t_end)))
 
-  module _ {v q : ℕ} (ch : Chosen n off nbr b m v q) where
-    -- they are the rules' vertex, and the two beside it
-    v_next : v ≡ next f B
-    unfolding next
-    v_next =
-        ch.lowest_is ∙ lowest_same (open_in off nbr ch.pos m) (open? f B) n 0 (λ v vl.
-        open_is f l off nbr b ch.pos m B (λ v. refl) (λ d. refl) B-length B-at distinct ch.positions later v (omega arith))
+  -- `choose` finds where it stands
+  chosen_t : chosen f B ≡ Some t
+  chosen_t = rw (lt-ltb (next f B) f.n next_in)
 
-    v_is : v ≡ get_or B t 0
-    v_is = v_next ∙ sym (index_at (next f B) B (omega (arith, t_end)))
+  pub some_chosen : {o : Option ℕ} → o ≡ chosen f B → IsSome o
+  some_chosen e = subst IsSome (sym (e ∙ chosen_t)) refl
 
-    q_is : q ≡ t + 1
-    q_is = ch.index ∙ ap (λ x. get_or ch.pos x 0) (v_is ∙ B-at t (omega (arith, t_in))) ∙ ch.positions.here t (omega (arith, t_in))
+  pub chosen_is : {o : Option ℕ} {i : ℕ} → o ≡ chosen f B → o ≡ Some i → i ≡ t
+  chosen_is {o} {i} e h = let q : Some i ≡ Some t = sym h ∙ e ∙ chosen_t in cc
 
-    left_is : get_or b (q - 2) 0 ≡ get_or B (t - 1) 0
-    left_is = let e : q - 2 ≡ t - 1 = omega (arith, q_is) in ap (λ i. get_or b i 0) e ∙ sym (B-at (t - 1) (omega (arith, t_in)))
+  -- the new boundary has different vertices
+  next_distinct : Distinct (without f B t)
+  next_distinct = apart f l valid (without f B t) (comes_off f B ∷ later) next_going.is
 
-    right_is : get_or b q 0 ≡ get_or B (t + 1) 0
-    right_is = ap (λ i. get_or b i 0) q_is ∙ sym (B-at (t + 1) t_in)
+  -- ---- what the code finds: the boundary, where the vertex stands on it, and one vertex on each side of it
 
-    -- v is a vertex, and one stands left and one right of it
-    pub v_in : v < n
+  module _ {vs : List ℕ} {i : ℕ} (eb : vs ≡ B) (ei : i ≡ t) where
+    pub i_low : 1 ≤ i
+    i_low = omega (arith, ei, t_some)
+
+    pub i_high : i + 1 < length vs
+    i_high = omega (arith, ei, ap length eb, t_end)
+
+    v_is : get_or vs i 0 ≡ get_or B t 0
+    v_is = rw (eb, ei)
+
+    pub v_in : get_or vs i 0 < f.n
     v_in = rw v_is (in_net f l valid B later is t (omega (arith, t_end)))
 
-    pub q_low : 2 ≤ q
-    q_low = omega (arith, q_is, t_some)
-
-    pub q_high : q < m
-    q_high = omega (arith, q_is, t_in)
-
     -- what `gather_entries` asks
-    pub gatherable : Gatherable f (get_or b (q - 2) 0) (place f v (get_or b q 0)) s
-    gatherable = rw (left_is, right_is, v_is) B-gatherable
+    pub gatherable : Gatherable f (get_or vs (i - 1) 0) (place f (get_or vs i 0) (get_or vs (i + 1) 0)) s
+    gatherable = rw (eb, ei) B-gatherable
 
-    module _ {e : ℕ} {ent' : List ℕ} (w : Gathered (run f v (get_or b (q - 2) 0) (get_or b q 0)) s ent ent' e) where
-      run_is : run f v (get_or b (q - 2) 0) (get_or b q 0) ≡ E
+    module _ {e : ℕ} {ent' : List ℕ} (w : Gathered (run f (get_or vs i 0) (get_or vs (i - 1) 0) (get_or vs (i + 1) 0)) s ent ent' e) where
+      run_is : run f (get_or vs i 0) (get_or vs (i - 1) 0) (get_or vs (i + 1) 0) ≡ E
       unfolding point_at
-      run_is = rw (left_is, right_is, v_is)
+      run_is = rw (eb, ei)
 
       len_is : s - e ≡ length E
       len_is = omega (arith, w.from, ap length run_is)
@@ -206,92 +161,81 @@ module _ {n D : ℕ} {off own nbr b : List ℕ} {m k : ℕ} {ver ln ent : List �
       pub e_low : e ≤ s
       e_low = omega (arith, w.from)
 
-      pub len_byte : s - e < 256
-      len_byte = omega (arith, len_is, next_room, t_in, t_some)
+      pub s_in : s ≤ 768
+      s_in = omega (arith, r.room)
 
-      -- what `put_boundary` asks
-      pub puttable : (m ≤ 256) × (q - 2 + 3 ≤ m) × (e + (s - e) ≤ 768) × (2 ≤ s - e) × (m + (s - e) ≤ 258)
-      puttable = (
-        r.m_in,
-        omega (arith, q_is, t_in, t_some),
-        omega (arith, e_low, r.room),
-        omega (arith, len_is, E-some),
-        omega (arith, len_is, next_room),
-      )
+      pub len_byte : s - e < 256
+      len_byte = omega (arith, len_is, next_room, t_end, t_some)
 
       ent_is : drop e ent' ≡ E ++ drop s ent
       ent_is = w.now ∙ ap (λ x. x ++ drop s ent) run_is
 
-      -- vertex, number of entries, entries and new boundary put where they belong number the point
+      entries : take (s - e) (drop e ent') ≡ E
+      entries = ap (take (s - e)) ent_is ∙ take_at E (drop s ent) (s - e) (sym len_is)
+
+      -- what `without` asks and gives: they and what stands beside the three are the new boundary
+      pub put_within : (i - 1 + 3 ≤ length vs) × (length vs + length (take (s - e) (drop e ent')) ≤ 258)
+      put_within = (omega (arith, i_low, i_high), omega (arith, ap length entries, ap length eb, next_room))
+
+      pub put_is : take (i - 1) vs ++ (take (s - e) (drop e ent') ++ drop (i - 1 + 3) vs) ≡ without f B t
+      unfolding without
+      put_is =
+          let upto : i - 1 + 3 ≡ t + 2 = omega (arith, ei, t_some) in
+          rw (upto, entries, eb, ei)
+
+      pub put_distinct : Distinct (take (i - 1) vs ++ (take (s - e) (drop e ent') ++ drop (i - 1 + 3) vs))
+      put_distinct = subst Distinct (sym put_is) next_distinct
+
+      -- vertex, number of entries and entries put where they belong number the point
       pub next_numbered :
-          {c' : List ℕ} → length c' ≡ 256 → ((x : ℕ) → x < m + (s - e) - 3 → get_or c' x 0 ≡ boundary_vertex b ent' (q - 2) e (s - e) x) →
-          NextNumbered f b m k ver ln ent s (set ver k v) (set ln k (s - e)) ent' c' (s - e)
-      unfolding without point_at
-      next_numbered {c'} cl h =
+          {b' : List ℕ} → b' ≡ take (i - 1) vs ++ (take (s - e) (drop e ent') ++ drop (i - 1 + 3) vs) →
+          NextNumbered f B k ver ln ent s (set ver k (get_or vs i 0)) (set ln k (s - e)) ent' e b'
+      unfolding point_at
+      next_numbered {b'} h =
           record {
-            len_is = len_is;
-            len_room = omega arith;
-            m_room = omega (arith, len_is, next_room);
-            ver_size = length-set ver k v ∙ r.arrays.ver_size;
+            start = omega (arith, e_low, len_is);
+            ver_size = length-set ver k _ ∙ r.arrays.ver_size;
             ln_size = length-set ln k (s - e) ∙ r.arrays.ln_size;
-            ent_size = ent_size;
-            c_size = cl;
-            boundary = boundary;
+            ent_size = w.same ∙ r.arrays.ent_size;
+            boundary = h ∙ put_is;
             later_is = numbered;
             fitting = fitting;
           }
         where
-          ent_size : length ent' ≡ 768
-          ent_size = w.same ∙ r.arrays.ent_size
-
-          entries : take (s - e) (drop e ent') ≡ E
-          entries = ap (take (s - e)) ent_is ∙ take_at E (drop s ent) (s - e) (sym len_is)
-
-          boundary : take (m + (s - e) - 3) c' ≡ without f B t
-          boundary =
-              let from : q - 2 ≡ t - 1 = omega (arith, q_is, t_some) in
-              let upto : t - 1 + 3 ≡ t + 2 = omega (arith, t_some) in
-              let p = puttable in
-              boundary_is b ent' c' m (q - 2) e (s - e) (omega (arith, r.arrays.b_size)) p.1 (omega (arith, ent_size)) (omega arith) (omega arith) h ∙
-              rw (entries, from, upto)
-
-          numbered : points_from n (set ver k v) (set ln k (s - e)) ent' (s - (s - e)) k ≡ comes_off f B ∷ later
+          numbered : points_from f.n (set ver k (get_or vs i 0)) (set ln k (s - e)) ent' e k ≡ comes_off f B ∷ later
           numbered =
-              let place : s - (s - e) ≡ e = omega (arith, e_low) in
-              let count : n - k ≡ suc (n - suc k) = omega (arith, r.k_in) in
+              let count : f.n - k ≡ suc (f.n - suc k) = omega (arith, r.k_in) in
               let a = r.arrays in
-              rw (place, count, ent_is, len_is)
-              (points_more ver ln k (n - suc k) v E (drop s ent) (omega (arith, a.ver_size, r.k_in, a.byte)) (omega (arith, a.ln_size, r.k_in, a.byte)) ∙
+              rw (count, ent_is, len_is)
+              (points_more ver ln k (f.n - suc k) (get_or vs i 0) E (drop s ent) (omega (arith, a.ver_size, r.k_in, a.kept.byte)) (omega (arith, a.ln_size, r.k_in, a.kept.byte)) ∙
               ap (λ x. record { vertex = x; entries = E } ∷ later) v_is)
 
-          fitting : Fitting (set ln k (s - e)) k (n - k) (drop (s - (s - e)) ent')
+          fitting : Fitting (set ln k (s - e)) k (f.n - k) (drop e ent')
           fitting =
-              let place : s - (s - e) ≡ e = omega (arith, e_low) in
-              let count : n - k ≡ suc (n - suc k) = omega (arith, r.k_in) in
-              rw (place, count, ent_is, len_is)
-              (fitting_more ln k (n - suc k) E (drop s ent) (omega (arith, r.arrays.ln_size, r.k_in, r.arrays.byte)) r.fitting)
+              let count : f.n - k ≡ suc (f.n - suc k) = omega (arith, r.k_in) in
+              rw (count, ent_is, len_is)
+              (fitting_more ln k (f.n - suc k) E (drop s ent) (omega (arith, r.arrays.ln_size, r.k_in, r.arrays.kept.byte)) r.fitting)
 
   -- ---- and the next after it
 
-  module _ {ver' ln' ent' c' : List ℕ} {len : ℕ} (z : NextNumbered f b m k ver ln ent s ver' ln' ent' c' len) where
+  module _ {ver' ln' ent' b' : List ℕ} {s' : ℕ} (z : NextNumbered f B k ver ln ent s ver' ln' ent' s' b') where
     index : suc (k - 1) ≡ k
     index = omega arith
 
     -- the arrays are ready for it
-    pub ready-again : Ready n D off own nbr c' (m + len - 3) (k - 1) ver' ln' ent' (s - len)
+    pub ready-again : Ready f b' (k - 1) ver' ln' ent' s'
     unfolding total
     ready-again =
         record {
-          arrays = same_net r.arrays z.ver_size z.ln_size z.ent_size z.c_size;
-          m_in = omega (arith, z.m_room);
+          arrays = same_net r.arrays z.ver_size z.ln_size z.ent_size;
           k_some = omega arith;
           k_in = omega (arith, r.k_in);
           going = rw (index, z.boundary, z.later_is) next_going;
-          room = rw (index, z.later_is) (omega (arith, r.room, z.len_is, z.len_room));
+          room = rw (index, z.later_is) (omega (arith, r.room, z.start));
           fitting = rw index z.fitting;
         }
 
     -- the rules count on with it
-    pub number-again : number f (k - 1) B later ≡ number f (k - 1 - 1) (take (m + len - 3) c') (points_from n ver' ln' ent' (s - len) (suc (k - 1)))
+    pub number-again : number f (k - 1) B later ≡ number f (k - 1 - 1) b' (points_from f.n ver' ln' ent' s' (suc (k - 1)))
     unfolding number
     number-again = let less : k - 1 ≡ suc (k - 1 - 1) = omega arith in ap (λ x. number f x B later) less ∙ rw (index, z.boundary, z.later_is)

@@ -1,6 +1,6 @@
 -- All points: those counted down to point 3, then points 1 and 2.
 use Prim.Native.Nat.{ℕ, suc, ◌+◌, ◌-◌, ◌*◌, ◌<◌, ◌≤◌}
-use Rattle.std.specs.Prelude.{◌≡◌, List, [], ◌∷◌, length, get_or, take, drop, set}
+use Rattle.std.specs.Prelude.{◌≡◌, List, [], ◌∷◌, length, get_or, drop, set}
 use Rattle.std.proofs.Math.Path.{ap, sym}
 use Rattle.std.proofs.Common.{◌∙◌, length-set, get_or-set_same, get_or-set_other}
 use native.Mathlib.Omega.{arith}
@@ -8,10 +8,10 @@ use Rattle.planar_rules.specs.PlanarCode.{Flat, Point, number, top_point, points
 use Rattle.planar_order.specs.Numbering.{total}
 use Rattle.planar_order.specs.Theorem.{Ordered}
 use Rattle.planar_order.proofs.Theorem.{ordered}
-use Rattle.planar_judging.specs.Arrays.{flat_of}
+use Rattle.planar_numbering.specs.declared.points.Points.{Points}
 use Rattle.planar_numbering.specs.Gathering.{drop-set}
 use Rattle.planar_numbering.specs.Points.{points_in, points_from, points_same, Fitting, fitting_same}
-use Rattle.planar_numbering.specs.Top.{Ready, TopNumbered}
+use Rattle.planar_numbering.specs.Top.{Begin, Ready, TopNumbered}
 use Rattle.planar_numbering.specs.Next.{NextNumbered, ready-again, number-again}
 
 -- points 3 to n, as the rules number them
@@ -19,9 +19,9 @@ abbrev pub from_three : Flat → List Point
 from_three f = number f (f.n - 3) (top_point f).entries (top_point f ∷ [])
 
 -- the points with index above k are numbered, and those that the rules number from there are the others
-pub record CountingDown (n D : ℕ) (off own nbr b : List ℕ) (m k : ℕ) (ver ln ent : List ℕ) (s : ℕ) : Type 0 where
-  pub ready : Ready n D off own nbr b m k ver ln ent s
-  pub to_come : from_three (flat_of n D off own nbr) ≡ number (flat_of n D off own nbr) (k - 1) (take m b) (points_from n ver ln ent s (suc k))
+pub record CountingDown (f : Flat) (b : List ℕ) (k : ℕ) (ver ln ent : List ℕ) (s : ℕ) : Type 0 where
+  pub ready : Ready f b k ver ln ent s
+  pub to_come : from_three f ≡ number f (k - 1) b (points_from f.n ver ln ent s (suc k))
 
 -- points 3 to n are numbered, and there is room for points 1 and 2
 pub record CountedDown (f : Flat) (ver ln ent : List ℕ) (s : ℕ) : Type 0 where
@@ -44,30 +44,24 @@ pub record AllNumbered (f : Flat) (ver ln ent : List ℕ) (s : ℕ) : Type 0 whe
   pub fitting : Fitting ln 0 f.n (drop s ent)
 
 -- point n alone has its number
-pub counting_begin :
-    {n D : ℕ} {off own nbr b ver ln ent : List ℕ} {k s : ℕ} → k ≡ n → TopNumbered n D off own nbr b ver ln ent s →
-    CountingDown n D off own nbr b (768 - s) (k - 2) ver ln ent s
-counting_begin {n} e g =
-    rw e
+pub counting_begin : {f : Flat} {b ver ln ent : List ℕ} {s : ℕ} → TopNumbered f b ver ln ent s → CountingDown f b (f.n - 2) ver ln ent s
+counting_begin {f} g =
     record {
       ready = g.ready;
-      to_come = let q : n - 2 - 1 ≡ n - 3 = omega arith in sym (rw (q, g.boundary, g.later_is));
+      to_come = let q : f.n - 2 - 1 ≡ f.n - 3 = omega arith in sym (rw (q, g.boundary, g.later_is));
     }
 
-module _ {n D : ℕ} {off own nbr b ver ln ent : List ℕ} {m k s : ℕ} (x : CountingDown n D off own nbr b m k ver ln ent s) where
-  abbrev f : Flat
-  f = flat_of n D off own nbr
-
+module _ {f : Flat} {b ver ln ent : List ℕ} {k s : ℕ} (x : CountingDown f b k ver ln ent s) where
   -- one more has
   pub counting_on :
-      {ver' ln' ent' c' : List ℕ} {len : ℕ} → 2 ≤ k → NextNumbered f b m k ver ln ent s ver' ln' ent' c' len →
-      CountingDown n D off own nbr c' (m + len - 3) (k - 1) ver' ln' ent' (s - len)
+      {ver' ln' ent' b' : List ℕ} {s' : ℕ} → 2 ≤ k → NextNumbered f b k ver ln ent s ver' ln' ent' s' b' →
+      CountingDown f b' (k - 1) ver' ln' ent' s'
   counting_on k2 z = record { ready = ready-again x.ready k2 z; to_come = x.to_come ∙ number-again x.ready k2 z }
 
   order : Ordered f
   order = let a = x.ready.arrays in ordered f a.kept.listed a.valid a.own0
 
-  rest-total : total (from_three f) + 7 ≡ 3 * n
+  rest-total : total (from_three f) + 7 ≡ 3 * f.n
   unfolding points total
   rest-total = omega (arith, ap total order.points_are, order.entries-total)
 
@@ -77,8 +71,8 @@ module _ {n D : ℕ} {off own nbr b ver ln ent : List ℕ} {m k s : ℕ} (x : Co
   counted-down less =
       let none : k - 1 ≡ 0 = omega arith in
       let next : suc k ≡ 2 = omega (arith, x.ready.k_some) in
-      let all : points_from n ver ln ent s 2 ≡ from_three f = sym (x.to_come ∙ rw (none, next)) in
-      let room : s + total (points_from n ver ln ent s 2) ≡ 768 = rw next at x.ready.room in
+      let all : points_from f.n ver ln ent s 2 ≡ from_three f = sym (x.to_come ∙ rw (none, next)) in
+      let room : s + total (points_from f.n ver ln ent s 2) ≡ 768 = rw next at x.ready.room in
       let a = x.ready.arrays in
       record {
         all = all;
@@ -87,7 +81,7 @@ module _ {n D : ℕ} {off own nbr b ver ln ent : List ℕ} {m k s : ℕ} (x : Co
         ent_size = a.ent_size;
         two = omega (arith, a.kept.some);
         fitting = rw next at x.ready.fitting;
-        s_some = omega (arith, ap total all, rest-total, a.byte);
+        s_some = omega (arith, ap total all, rest-total, a.kept.byte);
         s_in_lem = omega arith;
       }
 
@@ -143,3 +137,23 @@ all_numbered {f} {ver} {ln} {ent} {s} z =
       s_in_lem = omega (arith, z.s_in_lem);
       fitting = rw n (two_fitting ln ent s (f.n - 2) (omega (arith, z.ln_size)) z.s_some room z.fitting);
     }
+
+-- ---- the same of the points as the code has them
+
+abbrev pub Beginning : Flat → Points → Type 0
+Beginning f p = Begin f p.vertices p.counts p.entries
+
+abbrev pub Readied : Flat → List ℕ → ℕ → Points → Type 0
+Readied f b k p = Ready f b k p.vertices p.counts p.entries p.from
+
+abbrev pub TopNumberedIn : Flat → List ℕ → Points → Type 0
+TopNumberedIn f b p = TopNumbered f b p.vertices p.counts p.entries p.from
+
+abbrev pub NextNumberedIn : Flat → List ℕ → ℕ → Points → Points → List ℕ → Type 0
+NextNumberedIn f b k p p' b' = NextNumbered f b k p.vertices p.counts p.entries p.from p'.vertices p'.counts p'.entries p'.from b'
+
+abbrev pub CountedDownIn : Flat → Points → Type 0
+CountedDownIn f p = CountedDown f p.vertices p.counts p.entries p.from
+
+abbrev pub AllNumberedIn : Flat → Points → Type 0
+AllNumberedIn f p = AllNumbered f p.vertices p.counts p.entries p.from

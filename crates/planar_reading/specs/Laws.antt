@@ -1,7 +1,8 @@
 -- Laws of the rules' scans, one byte at a time.
-use Rattle.std.specs.Prelude.{ℕ, zero, suc, ◌+◌, ◌-◌, ◌<◌, ◌≤◌, ◌≡◌, refl, true, false, length, get_or, take, drop, set, eqb, leb}
-use Rattle.std.proofs.Common.{ap, sym, ◌∙◌, arith, length-append, length-set, take-append-drop, drop_of_length-le, drop-cons, take-suc-set, drop-set-lt, length-take-le, eq-eqb, ne_eqb, le-leb}
-use mathlib.Core.List.{List, [], ◌∷◌, ◌++◌, append_assoc, append-nil, tail}
+use Rattle.std.specs.Prelude.{ℕ, zero, suc, ◌+◌, ◌-◌, ◌<◌, ◌≤◌, ◌≡◌, refl, true, false, ◌&&◌, length, get_or, take, drop, set, replicate, eqb, leb}
+use Rattle.std.specs.List.{starts_with}
+use Rattle.std.proofs.Common.{ap, sym, ◌∙◌, arith, length-append, length-set, get_or-set_other, get_or-take, drop_of_length-le, drop-cons, take-suc-set, length-take-le, ne_eqb, le-leb}
+use mathlib.Core.List.{List, [], ◌∷◌, ◌++◌, append_assoc, append-nil}
 use Rattle.std.proofs.Math.Bool.{and-false}
 use Rattle.std.proofs.Math.Numerals.{add-one}
 use Rattle.std.proofs.Math.Decide.{ℕ_discrete, dec_le}
@@ -19,23 +20,20 @@ next_byte bs i l = rw (add-one i) (drop-cons bs i 0 l)
 pub no_byte : (bs : List ℕ) (i : ℕ) → length bs ≤ i → drop i bs ≡ []
 no_byte bs i l = drop_of_length-le bs {i = i} l
 
+-- an array of zeros has 0 at every index
+pub zeros : (n u : ℕ) → get_or {A = ℕ} (replicate n 0) u 0 ≡ 0
+zeros zero u = refl
+zeros (suc n) zero = refl
+zeros (suc n) (suc u) = zeros n u
+
 -- ---- the opening
 
--- character i is the same, is another, or there is none
-pub begins_same :
-    (as' bs : List ℕ) (i : ℕ) → i < length as' → i < length bs → get_or as' i 0 ≡ get_or bs i 0 →
-    begins? (drop i as') (drop i bs) ≡ begins? (drop (i + 1) as') (drop (i + 1) bs)
+-- byte by byte, as far as the text goes
+pub begins_is : (text bs : List ℕ) → starts_with eqb bs text ≡ begins? text bs
 unfolding begins?
-begins_same as' bs i l k e = rw (next_byte as' i l, next_byte bs i k, eq-eqb _ _ e)
-
-pub begins_not :
-    (as' bs : List ℕ) (i : ℕ) → i < length as' → i < length bs → (get_or as' i 0 ≡ get_or bs i 0 → ⊥) → begins? (drop i as') (drop i bs) ≡ false
-unfolding begins?
-begins_not as' bs i l k e = rw (next_byte as' i l, next_byte bs i k, ne_eqb _ _ e)
-
-pub begins-end : (as' bs : List ℕ) (i : ℕ) → length as' ≤ i → begins? (drop i as') bs ≡ true
-unfolding begins?
-begins-end as' bs i l = rw (no_byte as' i l)
+begins_is [] bs = refl
+begins_is (a ∷ text) [] = refl
+begins_is (a ∷ text) (b ∷ bs) = ap (λ t. eqb a b && t) (begins_is text bs)
 
 -- ---- the lists, with v of them to come
 
@@ -153,60 +151,54 @@ module _ (bs : List ℕ) (i : ℕ) (il : length bs ≤ i) where
   unfolding ends
   end-done d = rw (no_byte bs i il)
 
--- ---- filling an array from its start
+-- ---- filling an array of zeros from its start
 
--- what is the same from d on is the same from d + 1 on
-tail_same : (a b : List ℕ) (d : ℕ) → d < length a → d < length b → drop d a ≡ drop d b → drop (suc d) a ≡ drop (suc d) b
-tail_same a b d p q e = ap tail (sym (drop-cons a d 0 p) ∙ e ∙ drop-cons b d 0 q)
+-- the array has the elements of X, and 0 behind them
+abbrev pub Holds : List ℕ → List ℕ → Type 0
+Holds X array = (k : ℕ) → get_or array k 0 ≡ get_or X k 0
 
 -- X is what is filled in, R what is still to come
-pub record Filling (X R old new : List ℕ) (d : ℕ) : Type 0 where
-  pub so_far : X ≡ take d new ++ R
-  pub rest : drop d new ≡ drop d old
-  pub same : length new ≡ length old
-  pub within : d ≤ length old
-
--- new is old with X at its start
-abbrev pub Filled : List ℕ → List ℕ → List ℕ → Type 0
-Filled X old new = new ≡ X ++ drop (length X) old
+pub record Filling (X R array : List ℕ) (d : ℕ) : Type 0 where
+  pub so_far : X ≡ take d array ++ R
+  pub rest : (k : ℕ) → d ≤ k → get_or array k 0 ≡ 0
+  pub within : d ≤ length array
 
 -- nothing is filled in yet
-pub fill_begin : (X old : List ℕ) → Filling X X old old 0
-fill_begin X old = record { so_far = refl; rest = refl; same = refl; within = omega arith }
+pub fill_begin : (X : List ℕ) (size : ℕ) → Filling X X (replicate size 0) 0
+fill_begin X size = record { so_far = refl; rest = λ k l. zeros size k; within = omega arith }
 
 -- where something is to come there is a place for it
-pub fill_one : {X R R' old new : List ℕ} {d x : ℕ} → Filling X R old new d → R ≡ x ∷ R' → length X ≤ length old → d < length old
-fill_one {R = R} {new = new} {d = d} f e l =
-    let size : length (take d new) ≡ d = length-take-le d new (omega (arith, f.same, f.within)) in
-    omega (arith, ap length f.so_far, length-append (take d new) R, ap length e)
+pub fill_one : {X R R' array : List ℕ} {d x : ℕ} → Filling X R array d → R ≡ x ∷ R' → length X ≤ length array → d < length array
+fill_one {R = R} {array = array} {d = d} f e l =
+    omega (arith, ap length f.so_far, length-take-le d array f.within, length-append (take d array) R, ap length e)
 
 -- the next one is filled in
 pub fill_next :
-    {X R R' old new : List ℕ} {d x : ℕ} → Filling X R old new d → R ≡ x ∷ R' → length X ≤ length old → Filling X R' old (set new d x) (d + 1)
-fill_next {X} {R} {R'} {old} {new} {d} {x} f e l =
+    {X R R' array : List ℕ} {d x : ℕ} → Filling X R array d → R ≡ x ∷ R' → length X ≤ length array → Filling X R' (set array d x) (d + 1)
+fill_next {X} {R} {R'} {array} {d} {x} f e l =
     let r = fill_one f e l in
-    let r' : d < length new = omega (arith, f.same) in
     record {
       so_far =
-          f.so_far ∙ ap (λ k. take d new ++ k) e ∙ sym (append_assoc (take d new) (x ∷ []) R') ∙
-          ap (λ k. k ++ R') (sym (take-suc-set new d x r')) ∙
-          ap (λ k. take k (set new d x) ++ R') (sym (add-one d));
-      rest = rw (add-one d) (drop-set-lt (suc d) new d x (omega arith) ∙ tail_same new old d r' r f.rest);
-      same = length-set new d x ∙ f.same;
-      within = omega arith;
+          f.so_far ∙ ap (λ k. take d array ++ k) e ∙ sym (append_assoc (take d array) (x ∷ []) R') ∙
+          ap (λ k. k ++ R') (sym (take-suc-set array d x r)) ∙
+          ap (λ k. take k (set array d x) ++ R') (sym (add-one d));
+      rest = λ k kl. get_or-set_other array d k x 0 (λ q. omega arith) ∙ f.rest k (omega arith);
+      within = omega (arith, length-set array d x);
     }
 
 -- what is to come, told otherwise
-pub fill_same : {X R R' old new : List ℕ} {d : ℕ} → Filling X R old new d → R ≡ R' → Filling X R' old new d
-fill_same {new = new} {d = d} f e =
-    record { so_far = f.so_far ∙ ap (λ k. take d new ++ k) e; rest = f.rest; same = f.same; within = f.within }
+pub fill_same : {X R R' array : List ℕ} {d : ℕ} → Filling X R array d → R ≡ R' → Filling X R' array d
+fill_same {array = array} {d = d} f e = record { so_far = f.so_far ∙ ap (λ k. take d array ++ k) e; rest = f.rest; within = f.within }
 
 -- nothing is to come
-pub fill_end : {X R old new : List ℕ} {d : ℕ} → Filling X R old new d → R ≡ [] → Filled X old new
-fill_end {X} {R} {old} {new} {d} f e =
-    let q : X ≡ take d new = f.so_far ∙ ap (λ k. take d new ++ k) e ∙ append-nil (take d new) in
-    let k : length X ≡ d = ap length q ∙ length-take-le d new (omega (arith, f.same, f.within)) in
-    sym (take-append-drop d new) ∙ ap (λ t. t ++ drop d new) (sym q) ∙ ap (λ t. X ++ t) f.rest ∙ ap (λ m. X ++ drop m old) (sym k)
+pub fill_end : {X R array : List ℕ} {d : ℕ} → Filling X R array d → R ≡ [] → Holds X array
+fill_end {X} {R} {array} {d} f e k =
+    let q : X ≡ take d array = f.so_far ∙ ap (λ k. take d array ++ k) e ∙ append-nil (take d array) in
+    let long : length X ≡ d = ap length q ∙ length-take-le d array f.within in
+    elim (dec_le d k) [
+      | yes l ↦ f.rest k l ∙ sym (get_or-eq_default X 0 {n = k} (omega arith))
+      | no l ↦ sym (ap (λ t. get_or t k 0) q ∙ get_or-take d array k 0 (omega (arith, l)))
+    ]
 
 -- ---- a file whose lists are well formed, k of them from byte i on
 
@@ -242,7 +234,7 @@ owners-length v [] = refl
 owners-length v (zero ∷ bs) = owners-length (suc v) bs
 owners-length v (suc b ∷ bs) = ap suc (owners-length v bs)
 
--- an array that begins with x, when x is there already
-pub fill_from_one : (x : ℕ) (X old : List ℕ) → 0 < length old → get_or old 0 0 ≡ x → Filling (x ∷ X) X old old 1
-fill_from_one x X [] l e = absurd (omega arith)
-fill_from_one x X (y ∷ old) l e = record { so_far = rw e; rest = refl; same = refl; within = omega arith }
+-- an array of zeros begins with 0 already
+pub fill_from_one : (X : List ℕ) (size : ℕ) → 0 < size → Filling (0 ∷ X) X (replicate size 0) 1
+fill_from_one X zero l = absurd (omega arith)
+fill_from_one X (suc size) l = record { so_far = refl; rest = λ k l. zeros (suc size) k; within = omega arith }

@@ -1,44 +1,31 @@
 // A file in planar_code: whether it is well formed, and its net in arrays.
-// `formed` and `places` take any bytes; those that fill an array ask for a file whose lists are well formed, with no more
-// neighbours than the array has room for.
+// `Net::read` takes any bytes; the functions that make its arrays ask for lists that are well formed, with no more
+// neighbours than an array has room for.
 #![tactic(auto)]
 
-ghost use Rattle.std.specs.Prelude.{◌≡◌, true, ◌∷◌, ◌<◌, ◌≤◌, length, get_or};
-ghost use Rattle.planar_rules.specs.PlanarCode.{begins?, body, lists?, formed?, neighbours, owners, ends};
-ghost use Rattle.planar_reading.specs.Laws.{Filled};
+mod net;
 
+ghost use Rattle.std.specs.Prelude.{◌≡◌, true, ◌∷◌, ◌<◌, ◌≤◌, ◌-◌, ◌+◌, length, get_or, take, drop, IfOk, IfErr};
+ghost use Rattle.planar_rules.specs.PlanarCode.{lists?, formed?, neighbours, owners, ends, after, imported};
+ghost use Rattle.rules.specs.Refusals.{refused};
+ghost use Rattle.planar_reading.specs.Laws.{Holds};
+ghost use Rattle.planar_reading.specs.Reads.{net_in, Holding, list_in, found_place};
+
+pub use net::Net;
 use planar_rules::{FEWEST_VERTICES, PLACE_ROOM, START_ROOM};
+use rules::{Answer, Refusal};
 
 // Where n stands, behind the opening characters, and where the lists begin.
 const AT_N: usize = 15;
 
 const AT_LISTS: usize = 16;
 
-// Whether the file begins with the text.
-fn begins(file: &[u8], text: &[u8]) -> bool
-    requires { length text.now ≤ length file.now }
-    ensures { result ≡ begins? text.now file.now }
-{
-    let mut i = 0;
-    while i < text.len() {
-        let a = text[i];
-        let b = file[i];
-        if a != b {
-            return false;
-        }
-        i += 1;
-    }
-    true
-}
-
-// Whether n lists, and nothing else, stand behind n, and no neighbour is above n.
-fn lists(n: u8, file: &[u8]) -> bool
-    ensures { result ≡ lists? n n (body file.now) }
+// Whether n lists, and nothing else, stand there, and no neighbour is above n.
+fn well_listed(n: u8, lists: &[u8]) -> bool
+    ensures { result ≡ lists? n n lists.now }
 {
     let mut left = n;
-    let mut i = AT_LISTS;
-    while i < file.len() {
-        let c = file[i];
+    for &c in lists {
         if left == 0 {
             return false;
         }
@@ -48,97 +35,164 @@ fn lists(n: u8, file: &[u8]) -> bool
         if c == 0 {
             left -= 1;
         }
-        i += 1;
     }
     left == 0
 }
 
 // Whether the file is well formed: what 14 asks.
-pub fn formed(file: &[u8]) -> bool
+fn formed(file: &[u8]) -> bool
     ensures { result ≡ formed? file.now }
 {
     if file.len() < AT_LISTS {
         return false;
     }
-    if !begins(file, b">>planar_code<<") {
+    if !file.starts_with(b">>planar_code<<") {
         return false;
     }
     let n = file[AT_N];
     if n < FEWEST_VERTICES {
         return false;
     }
-    lists(n, file)
+    well_listed(n, &file[AT_LISTS..])
 }
 
 // How many neighbours all lists have together: the places.
-pub fn places(file: &[u8]) -> usize
-    ensures { result ≡ length (neighbours (body file.now)) }
+fn count_places(lists: &[u8]) -> usize
+    ensures { result ≡ length (neighbours lists.now) }
 {
-    let mut d = 0;
-    let mut i = AT_LISTS;
-    while i < file.len() {
-        let c = file[i];
+    let mut places = 0;
+    for &c in lists {
         if c != 0 {
-            d += 1;
+            places += 1;
         }
-        i += 1;
     }
-    d
+    places
 }
 
-// Puts into nbr which vertex each place names.
-pub fn fill_nbr(file: &[u8], nbr: &mut [u8; PLACE_ROOM])
-    requires { (length (neighbours (body file.now)) ≤ 1536) × (length nbr.old ≡ 1536) }
-    ensures { Filled (neighbours (body file.now)) nbr.old nbr.new }
+// Which vertex each place names.
+fn neighbours_of(lists: &[u8]) -> [u8; PLACE_ROOM]
+    requires { length (neighbours lists.now) ≤ 1536 }
+    ensures { Holds (neighbours lists.now) result }
 {
+    let mut neighbours = [0; PLACE_ROOM];
     let mut d = 0;
-    let mut i = AT_LISTS;
-    while i < file.len() {
-        let c = file[i];
+    for &c in lists {
         if c != 0 {
-            nbr[d] = c - 1;
+            neighbours[d] = c - 1;
             d += 1;
         }
-        i += 1;
     }
+    neighbours
 }
 
-// Puts into own in whose list each place stands.
-pub fn fill_own(file: &[u8], n: u8, own: &mut [u8; PLACE_ROOM])
-    requires { (lists? n n (body file.now) ≡ true) × (length (neighbours (body file.now)) ≤ 1536) × (length own.old ≡ 1536) }
-    ensures { Filled (owners 0 (body file.now)) own.old own.new }
+// In whose list each place stands.
+fn owners_of(n: u8, lists: &[u8]) -> [u8; PLACE_ROOM]
+    requires { (lists? n n lists.now ≡ true) × (length (neighbours lists.now) ≤ 1536) }
+    ensures { Holds (owners 0 lists.now) result }
 {
+    let mut owners = [0; PLACE_ROOM];
     let mut v = 0;
     let mut d = 0;
-    let mut i = AT_LISTS;
-    while i < file.len() {
-        let c = file[i];
+    for &c in lists {
         if c == 0 {
             v += 1;
         } else {
-            own[d] = v;
+            owners[d] = v;
             d += 1;
         }
-        i += 1;
     }
+    owners
 }
 
-// Puts into off where each list begins, and where the last ends; off[0] is 0 already.
-pub fn fill_off(file: &[u8], n: u8, off: &mut [u16; START_ROOM])
-    requires { (lists? n n (body file.now) ≡ true) × (length (neighbours (body file.now)) ≤ 1536) × (length off.old ≡ 257) × (get_or off.old 0 0 ≡ 0) }
-    ensures { Filled (0 ∷ ends 0 (body file.now)) off.old off.new }
+// Where each list begins, and where the last ends.
+fn starts_of(n: u8, lists: &[u8]) -> [u16; START_ROOM]
+    requires { (lists? n n lists.now ≡ true) × (length (neighbours lists.now) ≤ 1536) }
+    ensures { Holds (0 ∷ ends 0 lists.now) result }
 {
+    let mut starts = [0; START_ROOM];
     let mut v = 1;
     let mut d = 0;
-    let mut i = AT_LISTS;
-    while i < file.len() {
-        let c = file[i];
+    for &c in lists {
         if c == 0 {
-            off[v] = d;
+            starts[v] = d;
             v += 1;
         } else {
             d += 1;
         }
-        i += 1;
+    }
+    starts
+}
+
+impl Net {
+    // The net of a file: 14 where it is not well formed, and 15 where it has more places than a net of 255 vertices.
+    pub fn read(file: &[u8]) -> Answer<Net>
+        ensures net { IfOk result (Holding file.now) }
+        ensures refusal { IfErr result (λ e. imported file.now ≡ refused e.refusal e.place) }
+    {
+        if !formed(file) {
+            return Err(Refusal::BadCode.at(0));
+        }
+        let n = file[AT_N];
+        let lists = &file[AT_LISTS..];
+        let places = count_places(lists);
+        if PLACE_ROOM < places {
+            return Err(Refusal::NoNet.at(0));
+        }
+        Ok(Net {
+            n,
+            places,
+            starts: starts_of(n, lists),
+            owners: owners_of(n, lists),
+            neighbours: neighbours_of(lists),
+        })
+    }
+
+    // Where v's list begins.
+    fn start(&self, v: u8) -> usize
+        ensures { result ≡ get_or self.now.starts v 0 }
+    {
+        usize::from(self.starts[usize::from(v)])
+    }
+
+    // The place behind its last.
+    fn end(&self, v: u8) -> usize
+        ensures { result ≡ get_or self.now.starts (v + 1) 0 }
+    {
+        usize::from(self.starts[usize::from(v) + 1])
+    }
+
+    // Whom v's list names.
+    pub fn list(&self, v: u8) -> &[u8]
+        requires { v < self.now.n }
+        ensures list { result.now ≡ list_in self.now v }
+        ensures size { length result.now ≡ get_or self.now.starts (v + 1) 0 - get_or self.now.starts v 0 }
+    {
+        &self.neighbours[self.start(v)..self.end(v)]
+    }
+
+    // The place of u in v's list.
+    pub fn place_of(&self, v: u8, u: u8) -> Option<usize>
+        requires { v < self.now.n }
+        ensures { result ≡ found_place (net_in self.now) v u }
+    {
+        for d in (self.start(v)..self.end(v)).rev() {
+            if self.neighbours[d] == u {
+                return Some(d);
+            }
+        }
+        None
+    }
+
+    // The next place clockwise: a list is read cyclically.
+    pub fn after(&self, d: usize) -> usize
+        requires { d < 1536 }
+        ensures { result ≡ after (net_in self.now) d }
+    {
+        let v = self.owners[d];
+        if d + 1 == self.end(v) {
+            self.start(v)
+        } else {
+            d + 1
+        }
     }
 }

@@ -6,11 +6,12 @@ use native.Mathlib.Omega.{arith}
 use native.Mathlib.Nat.{zero-add}
 use native.Mathlib.Numerals.{add-one}
 use lib.ListN.{length, get_or, take, drop, set, length-map, length-append, length-drop, drop_of_length-le}
-use lib.Seq.{drop-cons, drop-drop, get_or-take, length-take-le}
+use lib.Seq.{drop-cons, drop-drop, length-take-le}
 use Rattle.words.specs.Bytes.{with_word}
 use Rattle.words.specs.Writing.{Pasted, Stored, stored_next, Ahead, ahead_all, ahead_as, ahead_word, ahead-part, ahead_none}
 use Rattle.planar_numbering.specs.Points.{Fitting}
-use Rattle.planar_writing.specs.Words.{numbers_of, point_words, points_words}
+use Rattle.planar_rules.specs.PlanarCode.{point_of}
+use Rattle.planar_writing.specs.Words.{AllIn, Known, numbers_of, point_words, points_words}
 
 -- ---- the entries of a point
 
@@ -33,12 +34,12 @@ module _ {out₀ : List ℕ} {at : ℕ} {num es out : List ℕ} {place i : ℕ} 
   -- the next entry has room
   pub entering_room : i < length es → at + 2 * length es ≤ length out₀ → place + 1 < length out
   entering_room b r =
-      omega (arith, h.ahead.place, h.ahead.long, length-map es (λ v. get_or num v 0), length-map (drop i es) (λ v. get_or num v 0), length-drop i es)
+      omega (arith, h.ahead.place, h.ahead.long, length-map es (λ v. point_of num v), length-map (drop i es) (λ v. point_of num v), length-drop i es)
 
   -- and is written
-  pub entering_more : {w : ℕ} {out' : List ℕ} → i < length es → w ≡ get_or num (get_or es i 0) 0 → out' ≡ with_word out place w → Entering out₀ at num es out' (place + 2) (i + 1)
+  pub entering_more : {w : ℕ} {out' : List ℕ} → i < length es → w ≡ point_of num (get_or es i 0) → out' ≡ with_word out place w → Entering out₀ at num es out' (place + 2) (i + 1)
   entering_more b e o =
-      let next : numbers_of num (drop i es) ≡ get_or num (get_or es i 0) 0 ∷ numbers_of num (drop (i + 1) es) =
+      let next : numbers_of num (drop i es) ≡ point_of num (get_or es i 0) ∷ numbers_of num (drop (i + 1) es) =
       ap (numbers_of num) (drop-cons es i 0 b ∙ ap (λ (k : ℕ). get_or es i 0 ∷ drop k es) (sym (add-one i))) in
       record { within = omega arith; ahead = ahead_word (ahead_as next h.ahead) (o ∙ ap (with_word out place) e) }
 
@@ -53,15 +54,17 @@ pub record Pointing (out₀ : List ℕ) (at n : ℕ) (ln ent : List ℕ) (s : �
   pub within : i ≤ n
   pub low : from ≤ length ent
   pub fits : Fitting ln i (n - i) (drop from ent)
+  pub known : Known num ln i (n - i) (drop from ent)
   pub ahead : Ahead out₀ at (points_words num ln 0 n (drop s ent)) out place (points_words num ln i (n - i) (drop from ent))
 
-pub pointing_start : (out : List ℕ) (at n : ℕ) (ln ent : List ℕ) (s : ℕ) (num : List ℕ) → s ≤ length ent → Fitting ln 0 n (drop s ent) → Pointing out at n ln ent s num out at s 0
-pointing_start out at n ln ent s num l f =
+pub pointing_start : (out : List ℕ) (at n : ℕ) (ln ent : List ℕ) (s : ℕ) (num : List ℕ) → s ≤ length ent → Fitting ln 0 n (drop s ent) → Known num ln 0 n (drop s ent) → Pointing out at n ln ent s num out at s 0
+pointing_start out at n ln ent s num l f w =
     let e : n ≡ n - 0 = omega arith in
     record {
       within = omega arith;
       low = l;
       fits = subst (λ (c : ℕ). Fitting ln 0 c (drop s ent)) e f;
+      known = subst (λ (c : ℕ). Known num ln 0 c (drop s ent)) e w;
       ahead = ahead_as (ap (λ (c : ℕ). points_words num ln 0 c (drop s ent)) e) (ahead_all out at (points_words num ln 0 n (drop s ent)));
     }
 
@@ -74,6 +77,13 @@ module _ {out₀ : List ℕ} {at n : ℕ} {ln ent : List ℕ} {s : ℕ} {num out
   fitting : (get_or ln i 0 ≤ length (drop from ent)) × Fitting ln (suc i) (n - (i + 1)) (drop (get_or ln i 0) (drop from ent))
   unfolding Fitting
   fitting = subst (λ (c : ℕ). Fitting ln i c (drop from ent)) left_less h.fits
+
+  knowing : AllIn num (entries_at ent from (get_or ln i 0)) × Known num ln (suc i) (n - (i + 1)) (drop (get_or ln i 0) (drop from ent))
+  unfolding Known
+  knowing = subst (λ (c : ℕ). Known num ln i c (drop from ent)) left_less h.known
+
+  pub pointing_known : AllIn num (entries_at ent from (get_or ln i 0))
+  pointing_known = knowing.0
 
   pub pointing_fits : from + get_or ln i 0 ≤ length ent
   pointing_fits = omega (arith, fitting.0, length-drop from ent, h.low)
@@ -96,7 +106,7 @@ module _ {out₀ : List ℕ} {at n : ℕ} {ln ent : List ℕ} {s : ℕ} {num out
         h.ahead.long,
         ap length next,
         length-append (point_words num (entries_at ent from (get_or ln i 0))) (points_words num ln (i + 1) (n - (i + 1)) (drop (from + get_or ln i 0) ent)),
-        length-map (entries_at ent from (get_or ln i 0)) (λ v. get_or num v 0),
+        length-map (entries_at ent from (get_or ln i 0)) (λ v. point_of num v),
         length-entries ent from (get_or ln i 0) pointing_fits,
       )
 
@@ -109,8 +119,11 @@ module _ {out₀ : List ℕ} {at n : ℕ} {ln ent : List ℕ} {s : ℕ} {num out
       let f : Fitting ln (i + 1) (n - (i + 1)) (drop (from + get_or ln i 0) ent) =
       subst (λ (l : List ℕ). Fitting ln (i + 1) (n - (i + 1)) l) (drop-drop (get_or ln i 0) from ent)
       (subst (λ (k : ℕ). Fitting ln k (n - (i + 1)) (drop (get_or ln i 0) (drop from ent))) a fitting.1) in
+      let known : Known num ln (i + 1) (n - (i + 1)) (drop (from + get_or ln i 0) ent) =
+      subst (λ (l : List ℕ). Known num ln (i + 1) (n - (i + 1)) l) (drop-drop (get_or ln i 0) from ent)
+      (subst (λ (k : ℕ). Known num ln k (n - (i + 1)) (drop (get_or ln i 0) (drop from ent))) a knowing.1) in
       subst (λ (c : ℕ). Pointing out₀ at n ln ent s num out' place' (from + c) (i + 1)) (sym e)
-      (record { within = omega arith; low = pointing_fits; fits = f; ahead = ahead-part (ahead_as next h.ahead) q })
+      (record { within = omega arith; low = pointing_fits; fits = f; known = known; ahead = ahead-part (ahead_as next h.ahead) q })
 
 -- all are written
 pub pointed : {out₀ : List ℕ} {at n : ℕ} {ln ent : List ℕ} {s : ℕ} {num out : List ℕ} {place from i : ℕ} → Pointing out₀ at n ln ent s num out place from i → n ≤ i →
@@ -128,16 +141,9 @@ suc_at [] i h = absurd (omega arith)
 suc_at (v ∷ l) zero h = refl
 suc_at (v ∷ l) (suc i) h = suc_at l i (omega arith)
 
-pub vertex_at : (ver : List ℕ) (n i : ℕ) → n ≤ length ver → i < n → get_or (map suc (take n ver)) i 0 ≡ get_or ver i 0 + 1
-vertex_at ver n i l h =
-    suc_at (take n ver) i (omega (arith, length-take-le n ver l)) ∙ ap suc (get_or-take n ver i 0 h) ∙ sym (add-one (get_or ver i 0))
-
--- there are n of them
-pub length-list : (ver : List ℕ) (n : ℕ) → n ≤ length ver → length (map suc (take n ver)) ≡ n
-length-list ver n l = length-map (take n ver) suc ∙ length-take-le n ver l
-
 -- i are written; one more is
-pub listing_more : (out₀ out ver : List ℕ) (n i : ℕ) → n ≤ length ver → i < n → Stored out₀ 0 (take i (map suc (take n ver))) out →
-    Stored out₀ 0 (take (i + 1) (map suc (take n ver))) (set out i (get_or ver i 0 + 1))
-listing_more out₀ out ver n i l h p =
-    rw (zero-add i, vertex_at ver n i l h) at (stored_next (map suc (take n ver)) i (omega (arith, length-list ver n l)) p)
+pub listing_more : (out₀ out b : List ℕ) (i : ℕ) → i < length b → Stored out₀ 0 (take i (map suc b)) out →
+    Stored out₀ 0 (take (i + 1) (map suc b)) (set out i (get_or b i 0 + 1))
+listing_more out₀ out b i h p =
+    let e : get_or (map suc b) i 0 ≡ get_or b i 0 + 1 = suc_at b i h ∙ sym (add-one (get_or b i 0)) in
+    rw (zero-add i, e) at (stored_next (map suc b) i (omega (arith, length-map b suc)) p)

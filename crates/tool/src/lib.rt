@@ -54,7 +54,7 @@ impl Move {
     }
 }
 
-// x without its fraction; 0 where that isn't a u64. For `printing_move` too.
+// x without its fraction; where that is no u64 the nearest one, and 0 for NaN. For `printing_move` too.
 pub fn whole_part(x: f32) -> u64
     ensures { WholePart x result }
 {

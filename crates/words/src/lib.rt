@@ -1,4 +1,4 @@
-// 16-bit numbers: widened to compute with, narrowed to store, in byte slices, high byte first, and as entries, split by mask and shift and put together by shift and or.
+// 16-bit numbers in byte slices, high byte first, and as entries, split by mask and shift and put together by shift and or.
 // The one place that looks at an entry's bits, and at a line's last field in a drawing file.
 // The functions ask that a number fits and that an offset lies in the slice; the crates above have tested it.
 #![tactic(auto)]
@@ -10,28 +10,6 @@ ghost use Rattle.rules.specs.Readings.{entry_of};
 ghost use Rattle.rules.specs.DrawingFile.{last_field, kind_from};
 
 use rules::{Entry, Kind, Reading};
-
-// A stored number, to compute with.
-pub fn broad(x: u16) -> usize
-    ensures { result ≡ x }
-{
-    x as usize
-}
-
-// A computed number, to store.
-pub fn narrow(v: usize) -> u16
-    requires { v < 65536 }
-    ensures { result ≡ v }
-{
-    v as u16
-}
-
-// A byte, as a number.
-pub fn byte(x: u8) -> u16
-    ensures { (result ≡ x) × (result < 256) }
-{
-    x as u16
-}
 
 // The number whose bytes stand at `at`.
 pub fn word_at(s: &[u8], at: usize) -> u16

@@ -1,5 +1,5 @@
 -- `find`: `before` moves stand before the line at hand, and that is no more than the number.
-use Rattle.std.proofs.Common.{◌≡◌, ◌*◌, ◌-◌, ◌≤◌, length}
+use Rattle.std.proofs.Common.{◌≡◌, ◌*◌, ◌≤◌, length}
 use Rattle.rules.specs.Points.{Drawing as Plan}
 use Rattle.rules.specs.Moves.{Tool as WholeTool}
 use Rattle.store_laws.specs.Adding.{Holds}
@@ -8,8 +8,8 @@ use Rattle.cutter.specs.Numbering.{moves_to}
 use Rattle.cutter.proofs.find.Given as goal
 
 abbrev pub invariant-loop-line : goal.invariant-loop-line
-invariant-loop-line l =
-    (l.line ≤ l.lines) × (l.before ≤ l.number) × (l.before ≤ 10 * l.line) × ((q : Plan) (t : WholeTool) → Holds q (arrays_in l.table) l.c → 1 ≤ t.pitch → l.before ≡ length (moves_to q t l.line))
-
-abbrev pub decreases-loop-line : goal.decreases-loop-line
-decreases-loop-line l = l.lines - l.line
+invariant-loop-line l = record {
+  low : l.before ≤ l.number;
+  few : l.before ≤ 10 * l.line;
+  is : (q : Plan) (t : WholeTool) → Holds q (arrays_in l.table) l.c → 1 ≤ t.pitch → l.before ≡ length (moves_to q t l.line);
+}

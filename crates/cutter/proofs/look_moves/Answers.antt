@@ -1,52 +1,46 @@
 -- `look_moves` meets its contract: the refusals in order, and all moves.
-use Rattle.std.proofs.Common.{sym, ap, arith, length}
+use Rattle.std.proofs.Common.{ap, arith, length}
 use Rattle.rules.specs.Moves.{Tool as WholeTool, all_moves}
-use Rattle.tool.specs.Checking.{whole_tool}
-use Rattle.tool.specs.Laws.{good-tool, bad_tool}
-use Rattle.cutter.specs.Whole.{all_bad, all_early, all_given}
-use Rattle.cutter.specs.Seen.{early, finished}
-use Rattle.cutter.specs.Lists.{lists-refused, lists-kinds, lists-numbers, lists_all}
+use Rattle.rules.specs.Results.{handed_on}
 use Rattle.rules.proofs.Dwelling.{has_pitch}
+use Rattle.tool.specs.Checking.{whole_tool}
+use Rattle.cutter.specs.Whole.{all_given}
+use Rattle.cutter.specs.Seen.{finished}
+use Rattle.cutter.specs.Lists.{lists-not, lists-kinds, lists-numbers, lists_all}
 use Rattle.cutter.proofs.look_moves.Goals as goal
 
-pub returns-in_default : goal.returns-in_default
-returns-in_default c q h = rw (all_bad q (whole_tool c.args.t) (bad_tool c.args.t (cc))) (lists-refused _ _ _ _)
-
-pub returns-then-c : goal.returns-then-c
-returns-then-c c q h =
-    let g = good-tool c.args.t _ (sym c.in-Good.ensures) in
-    rw (all_early q (whole_tool c.args.t) g.0 (early h c.if-c.true)) (lists-refused _ _ _ _)
+pub returns-in_err-by : goal.returns-in_err-by
+returns-in_err-by c q h = rw (handed_on c.from_residual.result _ c.from_residual.ensures.1) (lists-not _ _ h c.args.t _ c.in_err-by.ensures)
 
 pub returns-then-kinds-count : goal.returns-then-kinds-count
 returns-then-kinds-count c q h =
     let t = whole_tool c.args.t in
-    let g = good-tool c.args.t _ (sym c.in-Good.ensures) in
-    let n = c.count_moves-count.ensures q t h (has_pitch t g.0) in
-    rw (all_given q t g.0 (finished h c.if-c.false)) (lists-kinds _ _ _ (omega (arith, c.if-kinds-count.true, n)))
+    let set = c.in_ok-by.ensures in
+    let n = c.count_moves-count.ensures q t h (has_pitch t set.is) in
+    rw (all_given q t set.is (finished h set.whole)) (lists-kinds _ _ _ (omega (arith, c.if-kinds-count.true, n)))
 
 pub returns-then-numbers-count : goal.returns-then-numbers-count
 returns-then-numbers-count c q h =
     let t = whole_tool c.args.t in
-    let g = good-tool c.args.t _ (sym c.in-Good.ensures) in
-    let n = c.count_moves-count.ensures q t h (has_pitch t g.0) in
-    rw (all_given q t g.0 (finished h c.if-c.false)) (lists-numbers _ _ _ (omega (arith, c.if-kinds-count.false, n)) (omega (arith, c.if-numbers-count.true, n)))
+    let set = c.in_ok-by.ensures in
+    let n = c.count_moves-count.ensures q t h (has_pitch t set.is) in
+    rw (all_given q t set.is (finished h set.whole)) (lists-numbers _ _ _ (omega (arith, c.if-kinds-count.false, n)) (omega (arith, c.if-numbers-count.true, n)))
 
-pub put_moves-requires : goal.put_moves-requires
-put_moves-requires c =
+pub put_moves-requires-clause-scaled : goal.put_moves-requires-clause-scaled
+put_moves-requires-clause-scaled c = c.in_ok-by.ensures.scale
+
+pub put_moves-requires-clause-room : goal.put_moves-requires-clause-room
+put_moves-requires-clause-room c q h =
     let t = whole_tool c.args.t in
-    let g = good-tool c.args.t _ (sym c.in-Good.ensures) in (
-      c.requires,
-      g.2,
-      λ q h.
-          let n = c.count_moves-count.ensures q t h (has_pitch t g.0) in
-          let e = ap (λ (t : WholeTool). length (all_moves q t)) g.1 in
-          (omega (arith, e, c.if-kinds-count.false, n), omega (arith, e, c.if-numbers-count.false, n)),
-    )
+    let set = c.in_ok-by.ensures in
+    let n = c.count_moves-count.ensures q t h (has_pitch t set.is) in
+    let e = ap (λ (t : WholeTool). length (all_moves q t)) set.tool in
+    (omega (arith, e, c.if-kinds-count.false, n), omega (arith, e, c.if-numbers-count.false, n))
 
 pub returns : goal.returns
 returns c q h =
     let t = whole_tool c.args.t in
-    let g = good-tool c.args.t _ (sym c.in-Good.ensures) in
-    let n = c.count_moves-count.ensures q t h (has_pitch t g.0) in
-    rw (all_given q t g.0 (finished h c.if-c.false))
-    (lists_all _ _ _ (omega (arith, c.if-kinds-count.false, n)) (omega (arith, c.if-numbers-count.false, n)) (rw g.1 at (c.put_moves.ensures q h)))
+    let set = c.in_ok-by.ensures in
+    let n = c.count_moves-count.ensures q t h (has_pitch t set.is) in
+    rw (all_given q t set.is (finished h set.whole))
+    (lists_all _ _ _ (omega (arith, c.if-kinds-count.false, n)) (omega (arith, c.if-numbers-count.false, n)) (rw set.tool at (c.put_moves.ensures q h)))

@@ -1,8 +1,17 @@
--- `planar_choosing::choose` meets its contract: the positions, the lowest open vertex by them, and its own.
-use mathlib.Core.Path.{refl}
-use Rattle.planar_judging.specs.Laws.{zeros}
+-- `planar_choosing::choose` meets its contract: no vertex below v may come off.
+use Rattle.std.proofs.Common.{sym, ◌∙◌, arith}
+use Rattle.planar_rules.specs.PlanarCode.{open?}
+use Rattle.planar_reading.specs.Reads.{net_in}
+use Rattle.planar_choosing.specs.Choosing.{lowest_on, chosen_is, chosen_none}
 use Rattle.planar_choosing.proofs.choose.Goals as goal
 
--- `planar_choosing::choose` meets its contract: the positions, the lowest open vertex by them, and its own.
-pub positions-requires : goal.positions-requires
-positions-requires c = let p = c.requires in (p.0, p.1, refl, zeros 256)
+pub returns-then-open : goal.returns-then-open
+returns-then-open c =
+    c.index_of.ensures.index ∙ chosen_is (net_in c.args.net.now) c.args.boundary.now c.loop-v.v (omega arith) (sym c.open.ensures ∙ c.if-open.true) c.loop-v.invariant
+
+pub loop-v-preserved : goal.loop-v-preserved
+loop-v-preserved c =
+    c.loop-v.invariant ∙ lowest_on (open? (net_in c.args.net.now) c.args.boundary.now) _ c.loop-v.v (omega arith) (sym c.open.ensures ∙ c.if-open.false)
+
+pub returns : goal.returns
+returns c = chosen_none (net_in c.args.net.now) c.args.boundary.now c.loop-v.v (omega arith) c.loop-v.invariant

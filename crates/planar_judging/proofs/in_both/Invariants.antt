@@ -1,17 +1,11 @@
--- `planar_judging::in_both` meets its contract: the first i lines stand in both lists, and bk has where.
-use Prim.Native.Nat.{ℕ, ◌-◌, ◌<◌}
-use mathlib.Core.Path.{◌≡◌}
-use lib.ListN.{length, get_or}
-use lib.Dec.{ltb}
+-- `planar_judging::in_both` meets its contract: the first i lines stand in both lists, and backs has where.
+use Rattle.std.specs.Prelude.{ℕ, ◌<◌, ◌≡◌, length, get_or, ltb}
 use Rattle.planar_rules.specs.PlanarCode.{back}
-use Rattle.planar_judging.specs.Arrays.{flat_of}
+use Rattle.planar_reading.specs.Reads.{net_in}
 use Rattle.planar_judging.specs.Laws.{Passed}
 use Rattle.planar_judging.proofs.in_both.Given as goal
 
 abbrev pub invariant-loop-i : goal.invariant-loop-i
 invariant-loop-i l =
-    let f = flat_of l.n l.d l.off l.own l.nbr in
-    Passed (λ k. ltb (back f k) l.d) l.d l.i × (length l.bk ≡ 1536) × ((k : ℕ) → k < l.i → get_or l.bk k 0 ≡ back f k)
-
-abbrev pub decreases-loop-i : goal.decreases-loop-i
-decreases-loop-i l = l.d - l.i
+    let f = net_in l.net in
+    Passed (λ k. ltb (back f k) f.D) f.D l.i × (length l.backs ≡ 1536) × ((k : ℕ) → k < l.i → get_or l.backs k 0 ≡ back f k)

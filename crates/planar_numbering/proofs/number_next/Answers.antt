@@ -1,44 +1,99 @@
 -- `planar_numbering::number_next` meets its contract: the vertex is the rules' next, its entries are gathered, and the boundary is put anew.
-use native.Mathlib.Omega.{arith}
-use Rattle.planar_numbering.specs.Next.{m_small, choosable, q_low, q_high, v_in, gatherable, len_byte, puttable, next_numbered}
+use Rattle.std.proofs.Common.{arith}
+use Rattle.planar_numbering.specs.Next.{some_chosen, chosen_is, i_low, i_high, v_in, gatherable, len_byte, put_within, put_distinct, next_numbered}
 use Rattle.planar_numbering.proofs.number_next.Goals as goal
 
-pub choose-chosen-requires : goal.choose-chosen-requires
-choose-chosen-requires c = choosable c.requires.0 c.requires.1
+pub unwrap-t-requires : goal.unwrap-t-requires
+unwrap-t-requires c = some_chosen c.requires.0 c.requires.1 c.choose.ensures
+
+pub bounds-vertices-t : goal.bounds-vertices-t
+bounds-vertices-t c =
+    let r = c.requires.0 in
+    let k = c.requires.1 in
+    let b = c.as_slice-vertices.ensures in
+    let i = chosen_is r k c.choose.ensures c.unwrap-t.ensures in
+    omega (arith, i_high r k b i)
 
 pub overflow_sub-left : goal.overflow_sub-left
-overflow_sub-left c = let p = c.requires in omega (arith, q_low p.0 p.1 c.choose-chosen.ensures)
+overflow_sub-left c =
+    let r = c.requires.0 in
+    let k = c.requires.1 in
+    let b = c.as_slice-vertices.ensures in
+    let i = chosen_is r k c.choose.ensures c.unwrap-t.ensures in
+    i_low r k b i
 
-pub bounds-b-q : goal.bounds-b-q
-bounds-b-q c = let p = c.requires in omega (arith, q_high p.0 p.1 c.choose-chosen.ensures, m_small p.0 p.1)
+pub bounds-vertices-t-2 : goal.bounds-vertices-t-2
+bounds-vertices-t-2 c =
+    let r = c.requires.0 in
+    let k = c.requires.1 in
+    let b = c.as_slice-vertices.ensures in
+    let i = chosen_is r k c.choose.ensures c.unwrap-t.ensures in
+    omega (arith, i_high r k b i)
 
-pub bounds-b-q-2 : goal.bounds-b-q-2
-bounds-b-q-2 c =
-    let p = c.requires in
-    omega (arith, q_high p.0 p.1 c.choose-chosen.ensures, m_small p.0 p.1)
+pub overflow_add-right : goal.overflow_add-right
+overflow_add-right c =
+    let r = c.requires.0 in
+    let k = c.requires.1 in
+    let b = c.as_slice-vertices.ensures in
+    let i = chosen_is r k c.choose.ensures c.unwrap-t.ensures in
+    omega (arith, i_high r k b i)
+
+pub bounds-vertices-t-3 : goal.bounds-vertices-t-3
+bounds-vertices-t-3 c =
+    let r = c.requires.0 in
+    let k = c.requires.1 in
+    let b = c.as_slice-vertices.ensures in
+    let i = chosen_is r k c.choose.ensures c.unwrap-t.ensures in
+    i_high r k b i
 
 pub gather_entries-e-requires : goal.gather_entries-e-requires
 gather_entries-e-requires c =
-    let p = c.requires in
-    (p.0.arrays.kept, v_in p.0 p.1 c.choose-chosen.ensures, gatherable p.0 p.1 c.choose-chosen.ensures, p.0.arrays.ent_size)
+    let r = c.requires.0 in
+    let k = c.requires.1 in
+    let b = c.as_slice-vertices.ensures in
+    let i = chosen_is r k c.choose.ensures c.unwrap-t.ensures in
+    (v_in r k b i, gatherable r k b i, r.arrays.ent_size)
 
-pub overflow_cast-ln : goal.overflow_cast-ln
-overflow_cast-ln c =
-    let p = c.requires in
-    omega (arith, len_byte p.0 p.1 c.choose-chosen.ensures c.gather_entries-e.ensures)
+pub overflow_cast-points : goal.overflow_cast-points
+overflow_cast-points c =
+    let r = c.requires.0 in
+    let k = c.requires.1 in
+    let b = c.as_slice-vertices.ensures in
+    let i = chosen_is r k c.choose.ensures c.unwrap-t.ensures in
+    let w = c.gather_entries-e.ensures in
+    omega (arith, len_byte r k b i w)
 
-pub overflow_sub-q : goal.overflow_sub-q
-overflow_sub-q c =
-    let p = c.requires in
-    q_low p.0 p.1 c.choose-chosen.ensures
+pub overflow_sub-t : goal.overflow_sub-t
+overflow_sub-t c =
+    let r = c.requires.0 in
+    let k = c.requires.1 in
+    let b = c.as_slice-vertices.ensures in
+    let i = chosen_is r k c.choose.ensures c.unwrap-t.ensures in
+    i_low r k b i
 
-pub put_boundary-requires : goal.put_boundary-requires
-put_boundary-requires c =
-    let p = c.requires in
-    let y = puttable p.0 p.1 c.choose-chosen.ensures c.gather_entries-e.ensures in
-    (y.0, y.1, y.2, y.3, y.4, p.2)
+pub without-requires-clause-within : goal.without-requires-clause-within
+without-requires-clause-within c =
+    let r = c.requires.0 in
+    let k = c.requires.1 in
+    let b = c.as_slice-vertices.ensures in
+    let i = chosen_is r k c.choose.ensures c.unwrap-t.ensures in
+    let w = c.gather_entries-e.ensures in
+    put_within r k b i w
+
+pub without-requires-clause-different : goal.without-requires-clause-different
+without-requires-clause-different c =
+    let r = c.requires.0 in
+    let k = c.requires.1 in
+    let b = c.as_slice-vertices.ensures in
+    let i = chosen_is r k c.choose.ensures c.unwrap-t.ensures in
+    let w = c.gather_entries-e.ensures in
+    put_distinct r k b i w
 
 pub returns : goal.returns
 returns c =
-    let p = c.requires in
-    next_numbered p.0 p.1 c.choose-chosen.ensures c.gather_entries-e.ensures c.put_boundary.ensures.0 c.put_boundary.ensures.1
+    let r = c.requires.0 in
+    let k = c.requires.1 in
+    let b = c.as_slice-vertices.ensures in
+    let i = chosen_is r k c.choose.ensures c.unwrap-t.ensures in
+    let w = c.gather_entries-e.ensures in
+    next_numbered r k b i w c.without.ensures

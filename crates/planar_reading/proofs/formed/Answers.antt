@@ -1,21 +1,25 @@
 -- `planar_reading::formed` meets its contract: the first test of 14 that fails decides.
-use mathlib.Core.Path.{sym, ◌∙◌}
-use native.Mathlib.Omega.{arith}
-use Rattle.planar_reading.specs.Laws.{formed-short, formed_not, formed_small, formed-lists}
+use Rattle.std.proofs.Common.{sym, ◌∙◌, arith}
+use Rattle.std.proofs.lemmas.List.{take_rest}
+use Rattle.planar_rules.specs.PlanarCode.{opening}
+use Rattle.planar_reading.specs.Laws.{begins_is, formed-short, formed_not, formed_small, formed-lists}
 use Rattle.planar_reading.proofs.formed.Goals as goal
 
--- `planar_reading::formed` meets its contract: the first test of 14 that fails decides.
 pub returns-then-file-lt-AT_LISTS : goal.returns-then-file-lt-AT_LISTS
 returns-then-file-lt-AT_LISTS c = sym (formed-short c.args.file.now c.if-file-lt-AT_LISTS.true)
 
-pub returns-then-not-begins : goal.returns-then-not-begins
-returns-then-not-begins c = sym (formed_not c.args.file.now (sym c.begins.ensures ∙ c.if-not-begins.true))
+pub returns-then-not-starts_with : goal.returns-then-not-starts_with
+returns-then-not-starts_with c =
+    let bs = c.args.file.now in
+    sym (formed_not bs (sym (begins_is opening bs) ∙ sym c.starts_with.ensures.value ∙ c.if-not-starts_with.true))
 
 pub returns-then-n-lt-FEWEST_VERTICES : goal.returns-then-n-lt-FEWEST_VERTICES
 returns-then-n-lt-FEWEST_VERTICES c =
-    sym (formed_small c.args.file.now (sym c.begins.ensures ∙ c.if-not-begins.false) c.if-n-lt-FEWEST_VERTICES.true)
+    let bs = c.args.file.now in
+    sym (formed_small bs (sym (begins_is opening bs) ∙ sym c.starts_with.ensures.value ∙ c.if-not-starts_with.false) c.if-n-lt-FEWEST_VERTICES.true)
 
 pub returns : goal.returns
 returns c =
-    let opening = sym c.begins.ensures ∙ c.if-not-begins.false in
-    c.lists.ensures ∙ sym (formed-lists c.args.file.now opening (omega arith) (omega (arith, c.shared_slice_known-2-1.given 15)))
+    let bs = c.args.file.now in
+    let opens = sym (begins_is opening bs) ∙ sym c.starts_with.ensures.value ∙ c.if-not-starts_with.false in
+    c.well_listed.ensures ∙ rw (take_rest bs 16) (sym (formed-lists bs opens (omega arith) (omega (arith, c.type_inv.file 15))))

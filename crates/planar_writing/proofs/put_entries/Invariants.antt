@@ -1,10 +1,6 @@
--- `planar_writing::put_entries` meets its contract: i entries are written, the others are ahead.
-use Prim.Native.Nat.{◌-◌}
-use Rattle.planar_writing.proofs.Turns.{entries_at, Entering}
+-- `planar_writing::put_entries` meets its contract: the entries before the next are written, the others are ahead.
+use Rattle.planar_writing.proofs.Turns.{Entering}
 use Rattle.planar_writing.proofs.put_entries.Given as goal
 
-abbrev pub invariant-loop-i : goal.invariant-loop-i
-invariant-loop-i l = Entering l.initial.out l.at l.num (entries_at l.ent l.from l.count) l.out l.place l.i
-
-abbrev pub decreases-loop-i : goal.decreases-loop-i
-decreases-loop-i l = l.count - l.i
+abbrev pub invariant-loop-v : goal.invariant-loop-v
+invariant-loop-v l = Entering l.initial.out l.at l.by_point l.entries l.out l.place l.v-index

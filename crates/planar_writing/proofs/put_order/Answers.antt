@@ -4,4 +4,5 @@ use Rattle.planar_writing.proofs.put_order.Goals as goal
 
 pub returns : goal.returns
 returns c =
-    pasted_both c.put_two-points.ensures (pasted_both c.put_points-end.ensures c.put_end.ensures)
+    let head = rw c.len.ensures.count at c.put_two-behind.ensures in
+    pasted_both head (pasted_both c.put_points-end.ensures c.put_end.ensures)

@@ -1,0 +1,37 @@
+-- The setting of a finished drawing with a tool, or why there is none.
+use Rattle.std.specs.Prelude.{◌≡◌, ◌<◌, ◌≤◌, true, false, Option, None, Ok, Err, IsErrAnd}
+use Rattle.std.specs.Option.{ok_or}
+use Rattle.std.proofs.Common.{ap, ◌∙◌}
+use Rattle.rules.specs.declared.Refused.{Refused}
+use Rattle.rules.specs.declared.Refusal.TheVariants.{BadTool, Unfinished}
+use Rattle.rules.specs.Refusals.{Answer, refusal_at}
+use Rattle.rules.specs.Results.{handed_on}
+use Rattle.rules.specs.Moves.{is_tool}
+use Rattle.store_links.specs.declared.Counts.{Counts}
+use Rattle.tool.specs.declared.Tool.{Tool}
+use Rattle.tool.specs.Checking.{whole_tool, tool_of}
+use Rattle.cutter_lines.specs.declared.Setting.{Setting}
+
+-- the drawing is finished, the tool is one, and these are their scale and numbers
+pub record IsSet (c : Counts) (t : Tool) (by : Setting) : Type 0 where
+  pub is : is_tool (whole_tool t) ≡ true
+  pub whole : c.n ≤ c.k
+  pub scale : by.scale ≡ c.s
+  pub tool : tool_of by.tool ≡ whole_tool t
+
+-- the refusal where the tool is none, or else where the drawing is not finished
+pub data NotSet (c : Counts) (t : Tool) : Refused → Type 0 where
+  bad : is_tool (whole_tool t) ≡ false → NotSet c t (refusal_at BadTool 0)
+  early : is_tool (whole_tool t) ≡ true → c.k < c.n → NotSet c t (refusal_at Unfinished 0)
+
+-- the one or the other
+abbrev pub Sets : Counts → Tool → Answer Setting → Type 0
+Sets c t (Ok by) = IsSet c t by
+Sets c t (Err e) = NotSet c t e
+
+-- what a `?` hands on where a value was missing and a refusal was put for it
+pub missing : {A B : Type 0} (o : Option A) (r : Answer B) (e f : Refused) → o ≡ None → ◌≡◌ {A = Answer A} (Err e) (ok_or o f) → IsErrAnd r (λ y. y ≡ e) → r ≡ Err f
+missing {A} {B} o r e f none put h = handed_on r e h ∙ ap Err (same (rw none at put))
+  where
+    same : ◌≡◌ {A = Answer A} (Err e) (Err f) → e ≡ f
+    same q = cc
