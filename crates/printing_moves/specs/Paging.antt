@@ -1,5 +1,5 @@
 -- 24 never happens: buffers for the moves of every drawing hold an order file's moves, and the page then begins with their lines.
-use Rattle.std.specs.Prelude.{ℕ, ◌+◌, ◌*◌, ◌≤◌, ◌≡◌, refl, false, List, ◌++◌, length, take, drop, ltb, Float, Result as Outcome, Ok, Err}
+use Rattle.std.specs.Prelude.{ℕ, ◌+◌, ◌*◌, ◌≤◌, ◌≡◌, refl, false, List, ◌++◌, length, take, drop, ltb, Float, Result as Outcome, Ok}
 use Rattle.std.proofs.Common.{sym, ap, ◌∙◌, subst, arith, length-append, take_at, le-ltb}
 use Rattle.rules.specs.declared.Style.{Style}
 use Rattle.rules.specs.Refusals.{Result, good, refused, ◌>>=◌}
