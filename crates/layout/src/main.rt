@@ -2,7 +2,7 @@
 // Standard input holds 16-bit numbers, low byte first: n, the number of rounds, then the calls, each a count and its entries.
 #![tactic(auto)]
 
-ghost use Rattle.std.specs.Prelude.{◌+◌, ◌<◌, ◌≤◌, length};
+ghost use Rattle.std.specs.Prelude.{◌<◌, ◌≤◌, length};
 
 use drawing::Drawing;
 use rules::Style;
@@ -10,35 +10,15 @@ use std::io;
 use std::io::Read;
 use store_tables::{BENDS, DLS, DRS, GAP, HS, LATER, NEXT, OWNER, WORDS, YS};
 
-// A byte, to compute with.
-fn byte(x: u8) -> u16
-    ensures { result < 256 }
-{
-    x as u16
-}
-
-// The number whose low byte stands at `at`.
-fn low_first(bytes: &[u8], at: usize) -> u16
-    requires { at + 1 < length bytes.now }
-{
-    byte(bytes[at + 1]) * 256 + byte(bytes[at])
-}
-
 // Turns the bytes into numbers, as many as both hold; gives how many.
 fn take_words(bytes: &[u8], out: &mut [u16]) -> usize
     ensures { result ≤ length out.new }
 {
-    let mut i = 0;
-    let mut at = 0;
-    while i < out.len() {
-        if bytes.len() - at < 2 {
-            break;
-        }
-        out[i] = low_first(bytes, at);
-        i += 1;
-        at += 2;
+    let count = (bytes.len() / 2).min(out.len());
+    for i in 0..count {
+        out[i] = u16::from_le_bytes([bytes[2 * i], bytes[2 * i + 1]]);
     }
-    i
+    count
 }
 
 // One number of each array of the drawing, mixed.
@@ -58,16 +38,16 @@ fn repeat(n: usize, rounds: usize, calls: &[u16]) -> usize {
     let at = rounds % 1024;
     let mut seen = 0;
     let mut placed = 0;
-    let mut done = 0;
-    while done < rounds {
-        let ran = calls::run(Style::OneBend, n, calls, &mut answers);
-        let mixed = mix(ran.drawing, at) ^ answers[at];
-        if 0 < done && mixed != seen {
+    for round in 0..rounds {
+        let Ok(drawn) = calls::run(Style::OneBend, n, calls, &mut answers) else {
+            return 0;
+        };
+        let mixed = mix(drawn, at) ^ answers[at];
+        if 0 < round && mixed != seen {
             return 0;
         }
         seen = mixed;
-        placed = ran.drawing.counts.k;
-        done += 1;
+        placed = drawn.counts.k;
     }
     placed
 }
@@ -78,13 +58,10 @@ fn read_full<R: Read>(from: &mut R, buffer: &mut [u8]) -> usize
 {
     let mut done = 0;
     while done < buffer.len() {
-        let Ok(more) = from.read(&mut buffer[done..]) else {
-            break;
-        };
-        if more == 0 {
-            break;
+        match from.read(&mut buffer[done..]) {
+            Ok(0) | Err(_) => break,
+            Ok(more) => done += more,
         }
-        done += more;
     }
     done
 }
@@ -98,8 +75,8 @@ fn main(rt: HostRuntime) -> io::Result<()> {
     if count < 2 {
         return Ok(());
     }
-    let n = words::broad(numbers[0]);
-    let rounds = words::broad(numbers[1]);
+    let n = usize::from(numbers[0]);
+    let rounds = usize::from(numbers[1]);
     let placed = repeat(n, rounds, &numbers[2..count]);
     println!(rt; "{placed}")
 }

@@ -1,27 +1,19 @@
 // Prints the cutter moves of document 01's K4 (n = 5, add 1,3, then 1,4,3,2), one line a move, in eighths of a millimetre: drawn by calls with one tool, and from its order file at scale 8 with another. Then those of request 1's worked case of four points, with a feeder and a guide, those of two of request 3's, with bends at points and with guides only, and those of request 2's, the first net drawn straight by calls.
 #![tactic(auto)]
 
+ghost use Rattle.std.specs.Prelude.{IfOk};
+ghost use Rattle.drawing.specs.View.{Came};
 ghost use Rattle.drawing.specs.Places.{IsPlaced};
 
-use answers::{Counted, Moved};
-use drawing::Placed;
+use drawing::{Drawing, Placed};
 use rules::{Answer, Style};
 use std::io;
 use std::io::Write;
 use tool::{Move, Tool};
 
-// x in eighths; the fraction, if there were one, is dropped.
-fn eighths(x: f32) -> u64 {
-    let y = x * 8.0;
-    if y > -1.0 && y < 18446744073709551616.0 {
-        return std::num::truncating_f32_to_u64(y);
-    }
-    0
-}
-
-// A number behind a space, in eighths.
+// A number behind a space, in eighths; the fraction, if there were one, is dropped.
 fn print_number<W: Write>(to: &mut W, x: f32) -> io::Result<()> {
-    let n = eighths(x);
+    let n = tool::whole_part(x * 8.0);
     write!(to, " {n}")
 }
 
@@ -33,7 +25,7 @@ fn print_move<W: Write>(to: &mut W, m: Move) -> io::Result<()> {
             print_number(to, y)
         }
         Move::Plunge(z) => {
-            let n = eighths(-z);
+            let n = tool::whole_part(-z * 8.0);
             write!(to, "plunge -{n}")
         }
         Move::Cut(x, y) => {
@@ -53,9 +45,9 @@ fn print_at<W: Write>(to: &mut W, v: Placed, t: Tool, number: usize) -> io::Resu
     requires { IsPlaced v }
 {
     match cutter::move_at(v, t, number) {
-        Moved::Made(m) => print_move(to, m)?,
-        Moved::Refused(r, _) => {
-            let n = answers::refusal_number(r);
+        Ok(m) => print_move(to, m)?,
+        Err(refused) => {
+            let n = u16::from(refused.refusal);
             write!(to, "refused {n}")?
         }
     }
@@ -66,7 +58,7 @@ fn print_at<W: Write>(to: &mut W, v: Placed, t: Tool, number: usize) -> io::Resu
 fn print_all<W: Write>(to: &mut W, v: Placed, t: Tool) -> io::Result<()>
     requires { IsPlaced v }
 {
-    let Counted::Moves(n) = cutter::move_count(v) else {
+    let Ok(n) = cutter::move_count(v) else {
         return Ok(());
     };
     for number in 0..n {
@@ -75,22 +67,36 @@ fn print_all<W: Write>(to: &mut W, v: Placed, t: Tool) -> io::Result<()>
     print_at(to, v, t, n)
 }
 
-// The moves of an order file's drawing.
-fn print_order<W: Write>(to: &mut W, order: &[u8], t: Tool) -> io::Result<()> {
-    let done = panel::drawing_of(Style::OneBend, order);
-    let d = done.drawing;
-    let answer = done.answer;
-    let Answer::Accepted = answer else {
+// The moves of a drawing, if none of its calls was refused.
+fn print_drawing<W: Write>(to: &mut W, drawn: Answer<Drawing>, t: Tool) -> io::Result<()>
+    requires { IfOk drawn (λ d. Came d) }
+{
+    let Ok(d) = drawn else {
         return Ok(());
     };
     print_all(to, drawing::settle(d), t)
 }
 
-// The moves of a net of four points, drawn straight by calls.
-fn print_straight<W: Write>(to: &mut W, t: Tool) -> io::Result<()> {
-    let opened = drawing::open(Style::Straight, 4);
-    let four = drawing::add(opened.drawing, &[0x4001u16, 0x8003, 2]);
-    print_all(to, drawing::settle(four.drawing), t)
+// The moves of an order file's drawing.
+fn print_order<W: Write>(to: &mut W, order: &[u8], t: Tool) -> io::Result<()> {
+    print_drawing(to, panel::drawing_of(Style::OneBend, order), t)
+}
+
+// K4 by calls.
+fn five_points() -> Answer<Drawing>
+    ensures { IfOk result (λ d. Came d) }
+{
+    let three = drawing::open(Style::OneBend, 5)?;
+    let four = drawing::add(three, &[1u16, 3])?;
+    drawing::add(four, &[1u16, 4, 3, 2])
+}
+
+// A net of four points, drawn straight by calls.
+fn four_points() -> Answer<Drawing>
+    ensures { IfOk result (λ d. Came d) }
+{
+    let three = drawing::open(Style::Straight, 4)?;
+    drawing::add(three, &[0x4001u16, 0x8003, 2])
 }
 
 // A tool of these numbers.
@@ -105,10 +111,7 @@ fn tool_of(pitch: f32, depth: f32, clearance: f32) -> Tool {
 fn main(rt: HostRuntime) -> io::Result<()> {
     let mut out = rt.stdout();
     let to = &mut out;
-    let opened = drawing::open(Style::OneBend, 5);
-    let four = drawing::add(opened.drawing, &[1u16, 3]);
-    let five = drawing::add(four.drawing, &[1u16, 4, 3, 2]);
-    print_all(to, drawing::settle(five.drawing), tool_of(3.0, 1.0, 80.0))?;
+    print_drawing(to, five_points(), tool_of(3.0, 1.0, 80.0))?;
     print_order(
         to,
         b"HD\x00\x05SC\x00\x08PT\x00\x00PT\x00\x01\x00\x01PT\x00\x02\x00\x01\x00\x02PT\x00\x02\x00\x01\x00\x03PT\x00\x04\x00\x01\x00\x04\x00\x03\x00\x02EN",
@@ -129,5 +132,5 @@ fn main(rt: HostRuntime) -> io::Result<()> {
         b"HD\x00\x04PT\x00\x00PT\x00\x01\x80\x01PT\x00\x02\x80\x01\x80\x02PT\x00\x03\x80\x01\x80\x03\x80\x02EN",
         tool_of(8.0, 8.0, 8.0),
     )?;
-    print_straight(to, tool_of(1.0, 1.0, 80.0))
+    print_drawing(to, four_points(), tool_of(1.0, 1.0, 80.0))
 }

@@ -1,119 +1,135 @@
-// What is asked of the drawing in a lent table that goes with an accepting answer: its file, a move, all moves, a point, a line, a cut line; or that answer's refusal.
+// What is asked of the drawing in a lent table that goes with an accepting answer: a move, all moves, a point, a line, a cut line; or that answer's refusal.
 // For `panel_c`: it asks that an accepting answer has its drawing.
 #![tactic(auto)]
 
-ghost use Rattle.std.specs.Prelude.{◌≡◌};
-ghost use Rattle.rules.specs.declared.Answer.TheVariants.{Accepted};
+ghost use Rattle.std.specs.Prelude.{ℕ};
+ghost use Rattle.rules.specs.Refusals.{Answer as AnswerOf};
+ghost use Rattle.rules.specs.Points.{Drawing as Plan};
+ghost use Rattle.store_laws.specs.Adding.{Holds};
+ghost use Rattle.store_tables.specs.Tables.{arrays_in};
 ghost use Rattle.drawing.specs.View.{Came};
-ghost use Rattle.panel_asked.specs.Asking.{Finds};
-ghost use Rattle.panel_asked.specs.Filing.{Filed};
+ghost use Rattle.panel_asked.specs.Asking.{HasDrawing, Finds, asks};
 ghost use Rattle.panel_asked.specs.Listing.{FindsAll};
-ghost use Rattle.panel_asked.specs.Questions.{move_asked, point_asked, line_asked, cut_asked};
+ghost use Rattle.panel_asked.specs.Questions.{move_asked, point_asked, line_asked, ends_asked, cut_asked};
 
-use answers::{CutSeen, LineSeen, Listed, Moved, PointSeen, Written};
-use panel_words::{ANSWERS, OUTPUT};
-use rules::Answer;
+use answers::{LineSeen, NotListed};
+use panel_told::ForC;
+use rules::{Answer, Place};
 use store_links::Counts;
 use store_tables::Table;
-use tool::Tool;
+use tool::{Move, Tool};
 
-// A drawing file as it was written or refused, and the buffer that 24 is of.
-#[derive(Clone, Copy)]
-pub struct File {
-    pub written: Written,
-    pub buffer: u64,
+// A question to a drawing in a lent table. Of what it finds C is told with N words.
+pub trait Question<A, const N: usize>: Drop {
+    type Found: ForC<A, N>;
+
+    ghost right: { Self → Plan → AnswerOf Self.Found → Type 0 };
+
+    fn find(self, table: &Table, c: Counts) -> Answer<Self::Found>
+        requires { Came (record { counts = c; table = table.now }) }
+        ensures { (q : Plan) → Holds q (arrays_in table.now) c → right self q result };
 }
 
-// The drawing file: 24 with a refused answer is of the buffer for answers, 24 of the file is of its output.
-pub fn file_from(answer: Answer, out: &mut [u8], table: &Table, c: Counts) -> File
-    requires { answer ≡ Accepted → Came (record { counts = c; table = table.now }) }
-    ensures { Filed answer table.now c out.old out.new result }
-{
-    match answer {
-        Answer::Refused(r, p) => File {
-            written: Written::Refused(r, p),
-            buffer: ANSWERS,
-        },
-        Answer::Accepted => {
-            let written = write_files::drawing_file(out, table, c);
-            File {
-                written,
-                buffer: OUTPUT,
-            }
-        }
-    }
-}
-
-// A move.
-pub fn move_from(answer: Answer, table: &Table, c: Counts, t: Tool, number: usize) -> Moved
-    requires { answer ≡ Accepted → Came (record { counts = c; table = table.now }) }
-    ensures { Finds (move_asked t number) answer table.now c result }
-{
-    match answer {
-        Answer::Refused(r, p) => Moved::Refused(r, p),
-        Answer::Accepted => {
-            let x = store_looking::settled(table, c.k);
-            cutter::look_move(table, &x, c, t, number)
-        }
-    }
-}
-
-// All moves.
-pub fn moves_from(
-    answer: Answer,
+// Asks the drawing that goes with an accepting answer.
+pub fn find<A, const N: usize, Q: Question<A, N>>(
+    drawn: Answer<Counts>,
     table: &Table,
-    c: Counts,
-    t: Tool,
-    kinds: &mut [u8],
-    numbers: &mut [f32],
-) -> Listed
-    requires { answer ≡ Accepted → Came (record { counts = c; table = table.now }) }
-    ensures { FindsAll answer table.now c t kinds.old numbers.old kinds.new numbers.new result }
+    question: Q,
+) -> Answer<Q::Found>
+    requires { HasDrawing drawn table.now }
+    ensures { Finds (asks (Q.right question) Q.Found.given) drawn table.now result }
 {
-    match answer {
-        Answer::Refused(r, p) => Listed::Refused(r, p),
-        Answer::Accepted => {
-            let x = store_looking::settled(table, c.k);
-            cutter::look_moves(table, &x, c, t, kinds, numbers)
-        }
+    question.find(table, drawn?)
+}
+
+// Move `number`, from 0, with this tool.
+#[derive(Clone, Copy)]
+pub struct MoveAsked {
+    pub tool: Tool,
+    pub number: usize,
+}
+
+impl Question<f32, 2> for MoveAsked {
+    type Found = Move;
+
+    ghost right = { λ s. (move_asked s.tool s.number).right };
+
+    fn find(self, table: &Table, c: Counts) -> Answer<Move> {
+        let x = store_looking::settled(table, c.k);
+        cutter::look_move(table, &x, c, self.tool, self.number)
     }
 }
 
 // A point's place.
-pub fn point_from(answer: Answer, table: &Table, c: Counts, p: usize) -> PointSeen
-    requires { answer ≡ Accepted → Came (record { counts = c; table = table.now }) }
-    ensures { Finds (point_asked p) answer table.now c result }
-{
-    match answer {
-        Answer::Refused(r, p) => PointSeen::Refused(r, p),
-        Answer::Accepted => {
-            let x = store_looking::settled(table, c.k);
-            store_looking::look_point(table, &x, c, p)
-        }
+#[derive(Clone, Copy)]
+pub struct PointAsked(pub usize);
+
+impl Question<u64, 2> for PointAsked {
+    type Found = Place;
+
+    ghost right = { λ s. (point_asked s.0).right };
+
+    fn find(self, table: &Table, c: Counts) -> Answer<Place> {
+        let x = store_looking::settled(table, c.k);
+        store_looking::look_point(table, &x, c, self.0)
     }
 }
 
-// A line.
-pub fn line_from(answer: Answer, table: &Table, c: Counts, e: usize) -> LineSeen
-    requires { answer ≡ Accepted → Came (record { counts = c; table = table.now }) }
-    ensures { Finds (line_asked e) answer table.now c result }
-{
-    match answer {
-        Answer::Refused(r, p) => LineSeen::Refused(r, p),
-        Answer::Accepted => {
-            let x = store_looking::settled(table, c.k);
-            store_looking::look_line(table, &x, c, e)
-        }
+// A line, from 0, with its bend.
+#[derive(Clone, Copy)]
+pub struct LineAsked(pub usize);
+
+impl Question<u64, 7> for LineAsked {
+    type Found = LineSeen;
+
+    ghost right = { λ s. (line_asked s.0).right };
+
+    fn find(self, table: &Table, c: Counts) -> Answer<LineSeen> {
+        let x = store_looking::settled(table, c.k);
+        store_looking::look_line(table, &x, c, self.0)
+    }
+}
+
+// The same line without its bend.
+#[derive(Clone, Copy)]
+pub struct EndsAsked(pub usize);
+
+impl Question<u64, 3> for EndsAsked {
+    type Found = LineSeen;
+
+    ghost right = { λ s. (ends_asked s.0).right };
+
+    fn find(self, table: &Table, c: Counts) -> Answer<LineSeen> {
+        LineAsked(self.0).find(table, c)
     }
 }
 
 // A cut line that ends at a point.
-pub fn cut_from(answer: Answer, table: &Table, c: Counts, p: usize) -> CutSeen
-    requires { answer ≡ Accepted → Came (record { counts = c; table = table.now }) }
-    ensures { Finds (cut_asked p) answer table.now c result }
-{
-    match answer {
-        Answer::Refused(r, p) => CutSeen::Refused(r, p),
-        Answer::Accepted => store_looking::look_cut(table, c, p),
+#[derive(Clone, Copy)]
+pub struct CutAsked(pub usize);
+
+impl Question<u64, 1> for CutAsked {
+    type Found = Option<usize>;
+
+    ghost right = { λ s. (cut_asked s.0).right };
+
+    fn find(self, table: &Table, c: Counts) -> Answer<Option<usize>> {
+        store_looking::look_cut(table, c, self.0)
     }
+}
+
+// All moves, written into two buffers: how many there are.
+pub fn moves_from(
+    drawn: Answer<Counts>,
+    table: &Table,
+    t: Tool,
+    kinds: &mut [u8],
+    numbers: &mut [f32],
+) -> Result<usize, NotListed>
+    requires { HasDrawing drawn table.now }
+    ensures { FindsAll drawn table.now t kinds.old numbers.old kinds.new numbers.new result }
+{
+    let c = drawn?;
+    let x = store_looking::settled(table, c.k);
+    cutter::look_moves(table, &x, c, t, kinds, numbers)
 }

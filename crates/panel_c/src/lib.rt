@@ -11,7 +11,10 @@ ghost use Rattle.panel_doors.specs.Asked.{OrderAsked, CallsAsked};
 ghost use Rattle.panel_doors.specs.Imports.{ImportTold};
 ghost use Rattle.panel_doors.specs.Moves.{OrderMoves, CallsMoves};
 
+use panel_asked::{CutAsked, EndsAsked, LineAsked, MoveAsked, PointAsked};
+use panel_doors::{Calls, OrderFile};
 use rules::Style;
+use tool::Tool;
 
 // Draws an order file: the number of bytes written.
 #[unsafe(no_mangle)]
@@ -40,7 +43,7 @@ pub extern "C" fn panel_calls(
 ) -> u64
     ensures { CallsExported OneBend n calls.now answers.old answers.new out.old out.new result refusal.new }
 {
-    panel_doors::calls(Style::OneBend, n, calls, answers, out, refusal)
+    panel_doors::file(Style::OneBend, Calls { n, calls }, answers, out, refusal)
 }
 
 // Move `number`, from 0, of an order file's drawing.
@@ -56,13 +59,16 @@ pub extern "C" fn panel_move(
 ) -> u64
     ensures { OrderAsked OneBend (move_asked (record { pitch = pitch; depth = depth; clearance = clearance }) number) order.now at.old at.new result refusal.new }
 {
-    panel_doors::move_of(
-        Style::OneBend,
-        order,
+    let tool = Tool {
         pitch,
         depth,
         clearance,
-        number,
+    };
+    panel_doors::ask(
+        Style::OneBend,
+        OrderFile(order),
+        &mut [],
+        MoveAsked { tool, number },
         at,
         refusal,
     )
@@ -83,15 +89,16 @@ pub extern "C" fn panel_calls_move(
 ) -> u64
     ensures { CallsAsked OneBend (move_asked (record { pitch = pitch; depth = depth; clearance = clearance }) number) n calls.now answers.old answers.new at.old at.new result refusal.new }
 {
-    panel_doors::calls_move(
-        Style::OneBend,
-        n,
-        calls,
-        answers,
+    let tool = Tool {
         pitch,
         depth,
         clearance,
-        number,
+    };
+    panel_doors::ask(
+        Style::OneBend,
+        Calls { n, calls },
+        answers,
+        MoveAsked { tool, number },
         at,
         refusal,
     )
@@ -110,12 +117,16 @@ pub extern "C" fn panel_moves(
 ) -> u64
     ensures { OrderMoves OneBend (record { pitch = pitch; depth = depth; clearance = clearance }) order.now kinds.old numbers.old kinds.new numbers.new result refusal.new }
 {
-    panel_doors::moves(
-        Style::OneBend,
-        order,
+    let tool = Tool {
         pitch,
         depth,
         clearance,
+    };
+    panel_doors::moves(
+        Style::OneBend,
+        OrderFile(order),
+        &mut [],
+        tool,
         kinds,
         numbers,
         refusal,
@@ -137,14 +148,16 @@ pub extern "C" fn panel_calls_moves(
 ) -> u64
     ensures { CallsMoves OneBend (record { pitch = pitch; depth = depth; clearance = clearance }) n calls.now answers.old answers.new kinds.old numbers.old kinds.new numbers.new result refusal.new }
 {
-    panel_doors::calls_moves(
-        Style::OneBend,
-        n,
-        calls,
-        answers,
+    let tool = Tool {
         pitch,
         depth,
         clearance,
+    };
+    panel_doors::moves(
+        Style::OneBend,
+        Calls { n, calls },
+        answers,
+        tool,
         kinds,
         numbers,
         refusal,
@@ -161,7 +174,14 @@ pub extern "C" fn panel_point(
 ) -> u64
     ensures { OrderAsked OneBend (point_asked point) order.now seen.old seen.new result refusal.new }
 {
-    panel_doors::point(Style::OneBend, order, point, seen, refusal)
+    panel_doors::ask(
+        Style::OneBend,
+        OrderFile(order),
+        &mut [],
+        PointAsked(point),
+        seen,
+        refusal,
+    )
 }
 
 // The same of the drawing that a list of calls leaves, finished or not.
@@ -176,7 +196,14 @@ pub extern "C" fn panel_calls_point(
 ) -> u64
     ensures { CallsAsked OneBend (point_asked point) n calls.now answers.old answers.new seen.old seen.new result refusal.new }
 {
-    panel_doors::calls_point(Style::OneBend, n, calls, answers, point, seen, refusal)
+    panel_doors::ask(
+        Style::OneBend,
+        Calls { n, calls },
+        answers,
+        PointAsked(point),
+        seen,
+        refusal,
+    )
 }
 
 // Line `line`, from 0, of an order file's drawing.
@@ -189,7 +216,14 @@ pub extern "C" fn panel_line(
 ) -> u64
     ensures { OrderAsked OneBend (line_asked line) order.now seen.old seen.new result refusal.new }
 {
-    panel_doors::line(Style::OneBend, order, line, seen, refusal)
+    panel_doors::ask(
+        Style::OneBend,
+        OrderFile(order),
+        &mut [],
+        LineAsked(line),
+        seen,
+        refusal,
+    )
 }
 
 // The same of the drawing that a list of calls leaves, finished or not.
@@ -204,7 +238,14 @@ pub extern "C" fn panel_calls_line(
 ) -> u64
     ensures { CallsAsked OneBend (line_asked line) n calls.now answers.old answers.new seen.old seen.new result refusal.new }
 {
-    panel_doors::calls_line(Style::OneBend, n, calls, answers, line, seen, refusal)
+    panel_doors::ask(
+        Style::OneBend,
+        Calls { n, calls },
+        answers,
+        LineAsked(line),
+        seen,
+        refusal,
+    )
 }
 
 // A cut line of an order file's drawing that ends at a point, or that there is none.
@@ -217,7 +258,14 @@ pub extern "C" fn panel_cut_line(
 ) -> u64
     ensures { OrderAsked OneBend (cut_asked point) order.now seen.old seen.new result refusal.new }
 {
-    panel_doors::cut_line(Style::OneBend, order, point, seen, refusal)
+    panel_doors::ask(
+        Style::OneBend,
+        OrderFile(order),
+        &mut [],
+        CutAsked(point),
+        seen,
+        refusal,
+    )
 }
 
 // The same of the drawing that a list of calls leaves, finished or not.
@@ -232,7 +280,14 @@ pub extern "C" fn panel_calls_cut_line(
 ) -> u64
     ensures { CallsAsked OneBend (cut_asked point) n calls.now answers.old answers.new seen.old seen.new result refusal.new }
 {
-    panel_doors::calls_cut_line(Style::OneBend, n, calls, answers, point, seen, refusal)
+    panel_doors::ask(
+        Style::OneBend,
+        Calls { n, calls },
+        answers,
+        CutAsked(point),
+        seen,
+        refusal,
+    )
 }
 
 // Draws an order file straight: the number of bytes written.
@@ -266,7 +321,7 @@ pub extern "C" fn panel_straight_calls(
 ) -> u64
     ensures { CallsExported Straight n calls.now answers.old answers.new out.old out.new result refusal.new }
 {
-    panel_doors::calls(Style::Straight, n, calls, answers, out, refusal)
+    panel_doors::file(Style::Straight, Calls { n, calls }, answers, out, refusal)
 }
 
 // `panel_move` of straight drawings.
@@ -282,13 +337,16 @@ pub extern "C" fn panel_straight_move(
 ) -> u64
     ensures { OrderAsked Straight (move_asked (record { pitch = pitch; depth = depth; clearance = clearance }) number) order.now at.old at.new result refusal.new }
 {
-    panel_doors::move_of(
-        Style::Straight,
-        order,
+    let tool = Tool {
         pitch,
         depth,
         clearance,
-        number,
+    };
+    panel_doors::ask(
+        Style::Straight,
+        OrderFile(order),
+        &mut [],
+        MoveAsked { tool, number },
         at,
         refusal,
     )
@@ -309,15 +367,16 @@ pub extern "C" fn panel_straight_calls_move(
 ) -> u64
     ensures { CallsAsked Straight (move_asked (record { pitch = pitch; depth = depth; clearance = clearance }) number) n calls.now answers.old answers.new at.old at.new result refusal.new }
 {
-    panel_doors::calls_move(
-        Style::Straight,
-        n,
-        calls,
-        answers,
+    let tool = Tool {
         pitch,
         depth,
         clearance,
-        number,
+    };
+    panel_doors::ask(
+        Style::Straight,
+        Calls { n, calls },
+        answers,
+        MoveAsked { tool, number },
         at,
         refusal,
     )
@@ -336,12 +395,16 @@ pub extern "C" fn panel_straight_moves(
 ) -> u64
     ensures { OrderMoves Straight (record { pitch = pitch; depth = depth; clearance = clearance }) order.now kinds.old numbers.old kinds.new numbers.new result refusal.new }
 {
-    panel_doors::moves(
-        Style::Straight,
-        order,
+    let tool = Tool {
         pitch,
         depth,
         clearance,
+    };
+    panel_doors::moves(
+        Style::Straight,
+        OrderFile(order),
+        &mut [],
+        tool,
         kinds,
         numbers,
         refusal,
@@ -363,14 +426,16 @@ pub extern "C" fn panel_straight_calls_moves(
 ) -> u64
     ensures { CallsMoves Straight (record { pitch = pitch; depth = depth; clearance = clearance }) n calls.now answers.old answers.new kinds.old numbers.old kinds.new numbers.new result refusal.new }
 {
-    panel_doors::calls_moves(
-        Style::Straight,
-        n,
-        calls,
-        answers,
+    let tool = Tool {
         pitch,
         depth,
         clearance,
+    };
+    panel_doors::moves(
+        Style::Straight,
+        Calls { n, calls },
+        answers,
+        tool,
         kinds,
         numbers,
         refusal,
@@ -387,7 +452,14 @@ pub extern "C" fn panel_straight_point(
 ) -> u64
     ensures { OrderAsked Straight (point_asked point) order.now seen.old seen.new result refusal.new }
 {
-    panel_doors::point(Style::Straight, order, point, seen, refusal)
+    panel_doors::ask(
+        Style::Straight,
+        OrderFile(order),
+        &mut [],
+        PointAsked(point),
+        seen,
+        refusal,
+    )
 }
 
 // `panel_calls_point` of straight drawings.
@@ -402,7 +474,14 @@ pub extern "C" fn panel_straight_calls_point(
 ) -> u64
     ensures { CallsAsked Straight (point_asked point) n calls.now answers.old answers.new seen.old seen.new result refusal.new }
 {
-    panel_doors::calls_point(Style::Straight, n, calls, answers, point, seen, refusal)
+    panel_doors::ask(
+        Style::Straight,
+        Calls { n, calls },
+        answers,
+        PointAsked(point),
+        seen,
+        refusal,
+    )
 }
 
 // `panel_line` of straight drawings: a line has no bend.
@@ -415,7 +494,14 @@ pub extern "C" fn panel_straight_line(
 ) -> u64
     ensures { OrderAsked Straight (ends_asked line) order.now seen.old seen.new result refusal.new }
 {
-    panel_doors::ends(Style::Straight, order, line, seen, refusal)
+    panel_doors::ask(
+        Style::Straight,
+        OrderFile(order),
+        &mut [],
+        EndsAsked(line),
+        seen,
+        refusal,
+    )
 }
 
 // `panel_calls_line` of straight drawings: a line has no bend.
@@ -430,7 +516,14 @@ pub extern "C" fn panel_straight_calls_line(
 ) -> u64
     ensures { CallsAsked Straight (ends_asked line) n calls.now answers.old answers.new seen.old seen.new result refusal.new }
 {
-    panel_doors::calls_ends(Style::Straight, n, calls, answers, line, seen, refusal)
+    panel_doors::ask(
+        Style::Straight,
+        Calls { n, calls },
+        answers,
+        EndsAsked(line),
+        seen,
+        refusal,
+    )
 }
 
 // `panel_cut_line` of straight drawings.
@@ -443,7 +536,14 @@ pub extern "C" fn panel_straight_cut_line(
 ) -> u64
     ensures { OrderAsked Straight (cut_asked point) order.now seen.old seen.new result refusal.new }
 {
-    panel_doors::cut_line(Style::Straight, order, point, seen, refusal)
+    panel_doors::ask(
+        Style::Straight,
+        OrderFile(order),
+        &mut [],
+        CutAsked(point),
+        seen,
+        refusal,
+    )
 }
 
 // `panel_calls_cut_line` of straight drawings.
@@ -458,7 +558,14 @@ pub extern "C" fn panel_straight_calls_cut_line(
 ) -> u64
     ensures { CallsAsked Straight (cut_asked point) n calls.now answers.old answers.new seen.old seen.new result refusal.new }
 {
-    panel_doors::calls_cut_line(Style::Straight, n, calls, answers, point, seen, refusal)
+    panel_doors::ask(
+        Style::Straight,
+        Calls { n, calls },
+        answers,
+        CutAsked(point),
+        seen,
+        refusal,
+    )
 }
 
 // Reads a net in planar_code: its order file, and the list of its vertices by point. The number of bytes of the order file, 10n - 6; the list has n.

@@ -1,70 +1,56 @@
--- What the exported functions that write answer: a number, and three words of a refusal.
-use Rattle.std.specs.Prelude.{ℕ, ◌*◌, ◌≤◌, ◌≡◌, refl, Bool, true, false, List, length, ltb}
-use Rattle.std.proofs.Common.{sym, ap, ◌∙◌, ltb-true, ltb-false}
-use Rattle.rules.specs.declared.Style.{Style}
-use Rattle.rules.specs.declared.Answer.TheVariants.{Accepted}
-use Rattle.rules.specs.Refusals.{Result, refused_with, told_answer, ◌>>=◌}
-use Rattle.rules.specs.Numbers.{never-gives}
-use Rattle.rules.specs.Calls.{drawn}
-use Rattle.rules.specs.DrawingFile.{write_drawing}
+-- What the exported functions that write a file answer: a number, and three words of a refusal.
+use Rattle.std.specs.Prelude.{ℕ, ◌≡◌, List, Ok, Err}
+use Rattle.std.proofs.Common.{arith}
+use Rattle.rules.specs.declared.Refused.{Refused}
 use Rattle.exchange.specs.Built.{Reached}
-use Rattle.exchange.specs.Reaching.{reached-drawn}
-use Rattle.drawing.specs.declared.Done.{Done}
-use Rattle.drawing.specs.View.{Is, Came}
-use Rattle.calls_words.specs.Lists.{calls_in}
-use Rattle.calls.specs.Ran.{Ran}
-use Rattle.answers.specs.declared.Written.{Written}
-use Rattle.write_files.specs.Outputs.{Wrote}
+use Rattle.store_links.specs.declared.Counts.{Counts}
+use Rattle.store_laws.specs.Adding.{Holds}
+use Rattle.store_tables.specs.Tables.{arrays_in}
+use Rattle.panel_asked.specs.Asking.{Drew}
+use Rattle.rules.specs.declared.Style.{Style}
+use Rattle.rules.specs.Refusals.{Result, good, refused, Answer, refusal_at, ◌>>=◌}
+use Rattle.rules.specs.Points.{Drawing as Plan}
+use Rattle.rules.specs.DrawingFile.{write_drawing}
+use Rattle.write_files.specs.Outputs.{Wrote, turned}
+use Rattle.panel_words.specs.Words.{output_buffer, answers_buffer}
 use Rattle.panel_told.specs.Telling.{code_of, refusal_of}
 use Rattle.panel_told.specs.Answers.{file_given}
-use Rattle.panel_asked.specs.declared.File.{File}
-use Rattle.panel_asked.specs.Asking.{outcome}
-use Rattle.panel_asked.specs.Filing.{buffer_for, Filed}
+use Rattle.panel_doors.specs.Sources.{CallsGive}
 
 -- `wanted` was to be written into the output; 24 means that `buffer` was short
 pub record Exported (buffer : ℕ) (before : List ℕ) (wanted : Result (List ℕ)) (after : List ℕ) (r : ℕ) (refusal : List ℕ) : Type 0 where
-  pub written : Written
+  pub written : Answer ℕ
   pub wrote : Wrote before wanted after written
   pub count : r ≡ code_of (file_given written)
   pub place : refusal ≡ refusal_of buffer (file_given written)
 
+-- 24 of a source is of its own buffer, 24 behind its drawing is of the output
+abbrev pub buffer_for : ℕ → Result Plan → ℕ
+buffer_for short (good q) = output_buffer
+buffer_for short (refused r p) = short
+
+-- the drawing file was to be written, where a source gives a drawing, or the source's refusal stands for it
+pub record FileTold (Gives : Result Plan → Type 0) (short : ℕ) (before after : List ℕ) (r : ℕ) (refusal : List ℕ) : Type 0 where
+  pub outcome : Result Plan
+  pub gives : Gives outcome
+  pub written : Exported (buffer_for short outcome) before (outcome >>= write_drawing) after r refusal
+
 -- a list of calls was run, and the drawing file of its drawing was to be written
-pub record CallsExported (τ : Style) (n : ℕ) (ws saidBefore saidAfter before after : List ℕ) (r : ℕ) (refusal : List ℕ) : Type 0 where
-  pub done : Done
-  pub ran : Ran τ n ws saidBefore saidAfter done
-  pub written : Exported (buffer_for done.answer) before (outcome done.answer (drawn τ n (calls_in ws)) >>= write_drawing) after r refusal
+abbrev pub CallsExported : Style → ℕ → List ℕ → List ℕ → List ℕ → List ℕ → List ℕ → ℕ → List ℕ → Type 0
+CallsExported τ n ws saidBefore saidAfter before after r refusal = FileTold (CallsGive τ n ws saidBefore saidAfter) answers_buffer before after r refusal
 
--- an accepted list has its drawing, which its calls reached
-pub drew : {τ : Style} {n : ℕ} {ws before after : List ℕ} {r : Done} → Ran τ n ws before after r → r.answer ≡ Accepted → Reached (drawn τ n (calls_in ws)) × Is (drawn τ n (calls_in ws)) r.drawing
-drew {τ} {n} {ws} {before} {r = r} t h = go-low (ltb n 3) refl
-  where
-    Drew : Type 0
-    Drew = Reached (drawn τ n (calls_in ws)) × Is (drawn τ n (calls_in ws)) r.drawing
+module _ {Gives : Result Plan → Type 0} {short : ℕ} {before : List ℕ} (t : List ℕ) {r : ℕ} {refusal : List ℕ} where
+  -- The file of the drawing that the table holds.
+  pub told-drawn : {after : List ℕ} {w : Answer ℕ} (o : Result Plan) (c : Counts) → Gives o → Drew o t (Ok c) → ((q : Plan) → Reached q → Holds q (arrays_in t) c → Wrote before (write_drawing q) after w) →
+      r ≡ code_of (file_given w) → refusal ≡ refusal_of output_buffer (file_given w) → FileTold Gives short before after r refusal
+  told-drawn {w = w} (good q) c g d wrote n p =
+      let same : c ≡ d.0 = cc d.1 in
+      record { outcome = good q; gives = g; written = record { written = w; wrote = wrote q d.2 (rw same d.3); count = n; place = p } }
+  told-drawn (refused f p) c g d wrote n l = absurd (let z : ◌≡◌ {A = ℕ} 0 1 = cc d in omega arith)
 
-    two : ℕ
-    two = 2 * length (calls_in ws)
-
-    never : {why : ℕ} → told_answer r.answer ≡ refused_with why 0 → ⊥
-    never e = never-gives (sym e ∙ ap told_answer h)
-
-    go-short : 3 ≤ n → n ≤ 1024 → (b : Bool) → ltb (length before) two ≡ b → Drew
-    go-short low high true e = absurd (never (t.short low high (ltb-true _ _ e)).answer)
-    go-short low high false e = (reached-drawn τ n low high (calls_in ws), (t.enough low high (ltb-false _ _ e)).drawing)
-
-    go-high : 3 ≤ n → (b : Bool) → ltb 1024 n ≡ b → Drew
-    go-high low true e = absurd (never (t.high (ltb-true _ _ e)).answer)
-    go-high low false e = go-short low (ltb-false _ _ e) (ltb (length before) two) refl
-
-    go-low : (b : Bool) → ltb n 3 ≡ b → Drew
-    go-low true e = absurd (never (t.low (ltb-true _ _ e)).answer)
-    go-low false e = go-high (ltb-false _ _ e) (ltb 1024 n) refl
-
-pub came-ran : {τ : Style} {n : ℕ} {ws before after : List ℕ} {r : Done} → Ran τ n ws before after r → r.answer ≡ Accepted → Came r.drawing
-came-ran {τ} {n} {ws} t h = let d = drew t h in record { plan = drawn τ n (calls_in ws); reached = d.0; is = d.1 }
-
--- the answers of a list of calls, and the file that goes with its answer
-pub filed : {τ : Style} {n : ℕ} {ws saidBefore saidAfter before after refusal : List ℕ} {done : Done} {f : File} {r : ℕ} → Ran τ n ws saidBefore saidAfter done →
-    Filed done.answer done.drawing.table done.drawing.counts before after f → r ≡ code_of (file_given f.written) → refusal ≡ refusal_of f.buffer (file_given f.written) →
-    CallsExported τ n ws saidBefore saidAfter before after r refusal
-filed {done = done} {f = f} t k c g =
-    record { done = done; ran = t; written = record { written = f.written; wrote = k.wrote _ (drew t); count = c; place = rw (← k.buffer) g } }
+  -- No file, and the source's refusal.
+  pub told-refused : (o : Result Plan) (e : Refused) → Gives o → Drew o t (Err e) → r ≡ code_of (file_given (Err e)) → refusal ≡ refusal_of short (file_given (Err e)) → FileTold Gives short before before r refusal
+  told-refused (good q) e g d n p = absurd (let z : ◌≡◌ {A = ℕ} 0 1 = cc d.1 in omega arith)
+  told-refused (refused f p) e g d n l =
+      let same : e ≡ refusal_at f p = cc d in
+      record { outcome = refused f p; gives = g; written = record { written = Err e; wrote = rw same (turned before f p); count = n; place = l } }

@@ -1,4 +1,5 @@
 pub mod Exported
+pub mod Sources
 pub mod Asked
 pub mod Moves
 pub mod Imports

@@ -47,8 +47,8 @@ impl ForC<f32, 2> for Move {
     ghost given = { move_words };
 
     fn put(self, words: &mut [f32; 2]) -> u64 {
-        *words = tool::move_numbers(self);
-        u64::from(tool::move_kind(self))
+        *words = self.numbers();
+        u64::from(self.kind())
     }
 }
 

@@ -1,6 +1,6 @@
 // A file in planar_code: whether it is well formed, and its net in arrays.
-// `Net::read` takes any bytes; the functions below it that make an array ask for lists that are well formed, with no more
-// neighbours than the array has room for.
+// `Net::read` takes any bytes; the functions that make its arrays ask for lists that are well formed, with no more
+// neighbours than an array has room for.
 #![tactic(auto)]
 
 mod net;

@@ -1,4 +1,4 @@
--- The records of the points behind point 3, on the arrays. A contract has the arrays and not the drawing that they hold, so each claim is of every drawing that they hold (there is one at most: `Stored-one` of `store_settling`).
+-- The records of the points behind point 3, on the arrays. A contract has the arrays and not the drawing that they hold, so each claim is of every drawing that they hold (there is one at most: `stored_one` of `store_settling`).
 use Rattle.std.specs.Prelude.{ℕ, suc, ◌≤◌, ◌≡◌, refl, List, length, Ok, Err}
 use Rattle.std.proofs.Common.{ap, subst, arith}
 use Rattle.rules.specs.declared.Refusal.{Refusal}

@@ -1,7 +1,6 @@
--- The arrays and numbers of no drawing, and of a drawing as opened, with the entries of lines 1-2, 3-1 and 3-2 as 16-bit numbers.
+-- The arrays of no drawing, and the arrays and numbers of a drawing as opened, with the entries of lines 1-2, 3-1 and 3-2 as 16-bit numbers.
 use Rattle.std.specs.Prelude.{ℕ, List, replicate, set}
 use Rattle.rules.specs.declared.Style.{Style}
-use Rattle.rules.specs.declared.Style.TheVariants.{OneBend}
 use Rattle.rules.specs.declared.Bend.TheVariants.{Left, Right, NoBend}
 use Rattle.rules.specs.Styles.{third_x, third_y, taken, bent}
 use Rattle.store_links.specs.declared.Counts.{Counts}
@@ -35,9 +34,6 @@ open_arrays style a b c =
       later = three_lines 2 3 3;
       bends = three_lines (bend_code NoBend) (bend_code (bent style (Right 1))) (bend_code (bent style (Left 1)));
     }
-
-abbrev pub no_counts : Counts
-no_counts = record { style = OneBend; n = 0; s = 0; k = 0; m = 0; lines = 0 }
 
 abbrev pub open_counts : Style → ℕ → ℕ → Counts
 open_counts style n s = record { style = style; n = n; s = s; k = 3; m = 3; lines = 3 }

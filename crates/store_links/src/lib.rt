@@ -6,7 +6,6 @@ ghost use Rattle.std.specs.Prelude.{◌≡◌, ◌<◌, ◌≤◌};
 ghost use Rattle.rules.specs.Adding.{new_bend};
 ghost use Rattle.rules.specs.Styles as Styles;
 ghost use Rattle.store_links.specs.Codes.{bend_code, bend_from};
-ghost use Rattle.store_links.specs.Opening.{no_counts};
 ghost use Rattle.store_links.specs.Storing.{with_counts};
 
 use rules::{Bend, Style};
@@ -44,20 +43,6 @@ pub struct Spot {
     pub h: usize,
     pub s1: usize,
     pub rest: usize,
-}
-
-// No points and no lines, which go with a refusal.
-pub fn no_counts() -> Counts
-    ensures { result ≡ no_counts }
-{
-    Counts {
-        style: Style::OneBend,
-        n: 0,
-        s: 0,
-        k: 0,
-        m: 0,
-        lines: 0,
-    }
 }
 
 // The numbers with one point more, and a line for each of its entries.

@@ -1,5 +1,4 @@
 // Records of both files, written number by number, for the writers: they ask for room in the buffer, which is tested above.
-// The buffer and the place in it stay two parameters: in a struct that holds the buffer, every contract would need one clause more, that it still holds the same one.
 #![tactic(auto)]
 
 ghost use Rattle.std.specs.Prelude.{[], ◌∷◌, ◌+◌, ◌*◌, ◌<◌, ◌≤◌, length};

@@ -5,11 +5,6 @@ use Rattle.store_tables.specs.Tables.{arrays_in}
 use Rattle.store_adding.specs.Passing.{passing, runs, small, storable, refused-early, refused-late, accepts}
 use Rattle.store_adding.proofs.add.Goals as goal
 
-pub judge-requires : goal.judge-requires
-judge-requires c =
-    let h = c.requires.holds in
-    (omega arith, omega arith, omega (arith, h.stores.k, h.standing.ranged.room, h.standing.ranged.high))
-
 pub returns-in_err-judge : goal.returns-in_err-judge
 returns-in_err-judge c =
     rw (handed_on c.from_residual.result _ c.from_residual.ensures.1)

@@ -1,6 +1,0 @@
--- `calls_cut_line` meets its contract.
-use Rattle.panel_doors.specs.Asked.{of_calls}
-use Rattle.panel_doors.proofs.calls_cut_line.Goals as goal
-
-pub returns : goal.returns
-returns c = of_calls _ c.cut_from-found.result c.run_in-made.ensures c.cut_from-found.ensures c.tell_cut.ensures
