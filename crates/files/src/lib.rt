@@ -1,12 +1,15 @@
 // The programs' reading and writing, of any reader and writer. What they print is `printing`'s, with its proof; only which bytes the system gives to a read and takes from a write is outside it.
 #![tactic(auto)]
 
-ghost use Rattle.std.specs.Prelude.{◌≡◌, ◌≤◌, length, false, IfSome};
+ghost use Rattle.std.specs.Prelude.{◌≡◌, ◌≤◌, length, take, IfSome, IfOk, IfErr, OnOk};
 ghost use Rattle.std.specs.Io.KnownBytes.{Appends};
 ghost use Rattle.rules.specs.Output.{program, back_program};
 ghost use Rattle.printing.specs.Began.{Began};
+ghost use Rattle.files.specs.declared.FileError.TheVariants.{NotRead};
 
 use rules::{LONGEST_DRAWING, LONGEST_ORDER, Style};
+use std::error::Error;
+use std::fmt;
 use std::io::{Read, Write};
 
 // "It judges the first 32,768 bytes of its input as the whole file."
@@ -15,101 +18,90 @@ pub const ORDER_INPUT: usize = 32768;
 // Room for every drawing file and more.
 const DRAWING_INPUT: usize = 65536;
 
-// What came of a program's work: all of its output was written, or not all of it, or the input couldn't be read.
-#[derive(Clone, Copy)]
-pub enum Outcome {
-    Written,
-    NotWritten,
+// Why a program didn't do its work: the input couldn't be read, or not all of the output was written.
+#[derive(Clone, Copy, Debug, PartialEq, Eq)]
+pub enum FileError {
     NotRead,
+    NotWritten,
 }
 
-// How many bytes stand at the start of a buffer, and whether a read failed behind them. This and what makes it are for `files_moves` too.
-#[derive(Clone, Copy)]
-pub struct Input {
+impl fmt::Display for FileError {
+    fn fmt<W: fmt::Write>(&self, f: &mut fmt::Formatter<W>) -> fmt::Result {
+        match self {
+            FileError::NotRead => write!(f, "the input could not be read"),
+            FileError::NotWritten => write!(f, "not all of the output was written"),
+        }
+    }
+}
+
+impl Error for FileError {}
+
+// A read that failed, and how many bytes stand at the start of the buffer all the same.
+#[derive(Clone, Copy, Debug, PartialEq, Eq)]
+pub struct ReadFailed {
     pub bytes: usize,
-    pub failed: bool,
 }
 
-// Reads until the buffer is full, the input ends or a read fails.
-pub fn read_input<R: Read>(from: &mut R, buffer: &mut [u8]) -> Input
-    ensures within { result.bytes ≤ length buffer.new }
-    ensures began { result.failed ≡ false → IfSome (R.remaining from.old) (λ file. Began file buffer.new result.bytes) }
+impl From<ReadFailed> for FileError {
+    ghost from_gives = { λ _ e. e ≡ NotRead };
+
+    fn from(_failed: ReadFailed) -> FileError {
+        FileError::NotRead
+    }
+}
+
+// Reads until the buffer is full, the input ends or a read fails. Returns how many bytes stand at the start of the buffer.
+// The loop is written out, since the library's `read_to_end` fills a `Vec`, and this project has no heap.
+pub fn read_input<R: Read>(from: &mut R, buffer: &mut [u8]) -> Result<usize, ReadFailed>
+    ensures within { IfOk result (λ bytes. bytes ≤ length buffer.new) }
+    ensures failed_within { IfErr result (λ e. e.bytes ≤ length buffer.new) }
+    ensures began { IfOk result (λ bytes. IfSome (R.remaining from.old) (λ file. Began file (length buffer.old) (take bytes buffer.new))) }
 {
     let mut bytes = 0;
     while bytes < buffer.len() {
-        let Ok(more) = from.read(&mut buffer[bytes..]) else {
-            return Input {
-                bytes,
-                failed: true,
-            };
-        };
-        if more == 0 {
-            break;
+        match from.read(&mut buffer[bytes..]) {
+            Ok(0) => break,
+            Ok(more) => bytes += more,
+            Err(_) => return Err(ReadFailed { bytes }),
         }
-        bytes += more;
     }
-    Input {
-        bytes,
-        failed: false,
-    }
+    Ok(bytes)
 }
 
 // Writes the bytes, to standard output in the programs.
-pub fn print<W: Write>(to: &mut W, bytes: &[u8]) -> Outcome
-    ensures { result ≡ Outcome.Written → Appends (W.contents to.old) (W.contents to.new) bytes.now }
+pub fn print<W: Write>(to: &mut W, bytes: &[u8]) -> Result<(), FileError>
+    ensures { OnOk result (Appends (W.contents to.old) (W.contents to.new) bytes.now) }
 {
-    let mut done = 0;
-    while done < bytes.len() {
-        let Ok(more) = to.write(&bytes[done..]) else {
-            return Outcome::NotWritten;
-        };
-        if more == 0 {
-            return Outcome::NotWritten;
-        }
-        done += more;
-    }
-    Outcome::Written
+    to.write_all(bytes).map_err(|_| FileError::NotWritten)
 }
 
 // The drawing program of a style, from a file that is open to a writer.
-pub fn draw<R: Read, W: Write>(style: Style, from: &mut R, to: &mut W) -> Outcome
-    ensures { result ≡ Outcome.Written → IfSome (R.remaining from.old) (λ file. Appends (W.contents to.old) (W.contents to.new) (program style file)) }
+// Each program reads, fills a page and prints in these five lines: one function for all, generic over a closure that fills, was tried, and its proof didn't close where the closure keeps the style.
+pub fn draw<R: Read, W: Write>(style: Style, from: &mut R, to: &mut W) -> Result<(), FileError>
+    ensures { OnOk result (IfSome (R.remaining from.old) (λ file. Appends (W.contents to.old) (W.contents to.new) (program style file))) }
 {
     let mut order = [0u8; ORDER_INPUT];
-    let input = read_input(from, &mut order);
-    if input.failed {
-        return Outcome::NotRead;
-    }
+    let read = read_input(from, &mut order)?;
     let mut page = [0u8; LONGEST_DRAWING];
-    let length = printing::draw_page(style, &order, input.bytes, &mut page);
-    print(to, &page[..length])
+    let filled = printing::draw_page(style, &order[..read], &mut page);
+    print(to, &page[..filled])
 }
 
 // The reading program of a style, in the same manner.
-pub fn undraw<R: Read, W: Write>(style: Style, from: &mut R, to: &mut W) -> Outcome
-    ensures { result ≡ Outcome.Written → IfSome (R.remaining from.old) (λ file. Appends (W.contents to.old) (W.contents to.new) (back_program style file)) }
+pub fn undraw<R: Read, W: Write>(style: Style, from: &mut R, to: &mut W) -> Result<(), FileError>
+    ensures { OnOk result (IfSome (R.remaining from.old) (λ file. Appends (W.contents to.old) (W.contents to.new) (back_program style file))) }
 {
-    let mut file = [0u8; DRAWING_INPUT];
-    let input = read_input(from, &mut file);
-    if input.failed {
-        return Outcome::NotRead;
-    }
+    let mut drawing = [0u8; DRAWING_INPUT];
+    let read = read_input(from, &mut drawing)?;
     let mut page = [0u8; LONGEST_ORDER];
-    let length = printing::undraw_page(style, &file, input.bytes, &mut page);
-    print(to, &page[..length])
+    let filled = printing::undraw_page(style, &drawing[..read], &mut page);
+    print(to, &page[..filled])
 }
 
 // Says, on standard error in the programs, behind the program's name, what failed: the programs' exit status stays 0.
-pub fn report<W: Write>(program: &[u8], outcome: Outcome, to: &mut W) {
-    match outcome {
-        Outcome::Written => {}
-        Outcome::NotWritten => say(program, b": not all of the output was written\n", to),
-        Outcome::NotRead => say(program, b": the input could not be read\n", to),
+pub fn report<W: Write>(program: &[u8], outcome: Result<(), FileError>, to: &mut W) {
+    if let Err(error) = outcome {
+        let _ = print(to, program);
+        let _ = writeln!(to, ": {error}");
     }
-}
-
-// Writes a line there.
-fn say<W: Write>(program: &[u8], text: &[u8], to: &mut W) {
-    let _ = print(to, program);
-    let _ = print(to, text);
 }

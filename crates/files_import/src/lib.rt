@@ -1,11 +1,11 @@
 // The import programs' reading and writing, of any reader and writer. What they print is `printing_import`'s, with its proof; only which bytes the system gives to a read and takes from a write is outside it.
 #![tactic(auto)]
 
-ghost use Rattle.std.specs.Prelude.{◌≡◌, IfSome};
+ghost use Rattle.std.specs.Prelude.{IfSome, OnOk};
 ghost use Rattle.std.specs.Io.KnownBytes.{Appends};
 ghost use Rattle.planar_rules.specs.Programs.{import_program, vertices_program};
 
-use files::{ORDER_INPUT, Outcome};
+use files::{FileError, ORDER_INPUT};
 use planar_rules::{LONGEST_IMPORT, MOST_VERTICES};
 use std::io::{Read, Write};
 
@@ -13,38 +13,27 @@ use std::io::{Read, Write};
 const LINES: usize = 4 * MOST_VERTICES + 20;
 
 // The import program, from a file that is open to a writer.
-pub fn import<R: Read, W: Write>(from: &mut R, to: &mut W) -> Outcome
-    ensures { result ≡ Outcome.Written → IfSome (R.remaining from.old) (λ file. Appends (W.contents to.old) (W.contents to.new) (import_program file)) }
+pub fn import<R: Read, W: Write>(from: &mut R, to: &mut W) -> Result<(), FileError>
+    ensures { OnOk result (IfSome (R.remaining from.old) (λ file. Appends (W.contents to.old) (W.contents to.new) (import_program file))) }
 {
     let mut file = [0u8; ORDER_INPUT];
-    let input = files::read_input(from, &mut file);
-    if input.failed {
-        return Outcome::NotRead;
-    }
+    let read = files::read_input(from, &mut file)?;
     let mut page = [0u8; LONGEST_IMPORT];
     let mut list = [0u8; MOST_VERTICES];
-    let length = printing_import::import_page(&file, input.bytes, &mut page, &mut list);
-    files::print(to, &page[..length])
+    let filled = printing_import::import_page(&file[..read], &mut page, &mut list);
+    files::print(to, &page[..filled])
 }
 
 // The program that prints the vertices by point, in the same manner.
-pub fn import_vertices<R: Read, W: Write>(from: &mut R, to: &mut W) -> Outcome
-    ensures { result ≡ Outcome.Written → IfSome (R.remaining from.old) (λ file. Appends (W.contents to.old) (W.contents to.new) (vertices_program file)) }
+pub fn import_vertices<R: Read, W: Write>(from: &mut R, to: &mut W) -> Result<(), FileError>
+    ensures { OnOk result (IfSome (R.remaining from.old) (λ file. Appends (W.contents to.old) (W.contents to.new) (vertices_program file))) }
 {
     let mut file = [0u8; ORDER_INPUT];
-    let input = files::read_input(from, &mut file);
-    if input.failed {
-        return Outcome::NotRead;
-    }
+    let read = files::read_input(from, &mut file)?;
     let mut page = [0u8; LINES];
     let mut order = [0u8; LONGEST_IMPORT];
     let mut list = [0u8; MOST_VERTICES];
-    let length = printing_import::vertices_page(
-        &file,
-        input.bytes,
-        &mut page,
-        &mut order,
-        &mut list,
-    );
-    files::print(to, &page[..length])
+    let net = &file[..read];
+    let filled = printing_import::vertices_page(net, &mut page, &mut order, &mut list);
+    files::print(to, &page[..filled])
 }

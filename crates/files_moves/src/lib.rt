@@ -1,12 +1,12 @@
 // The moves programs' reading and writing, of any reader, writer and arguments. What they print is `printing_moves`', with its proof; only which arguments and bytes the system gives, and which it takes, is outside it.
 #![tactic(auto)]
 
-ghost use Rattle.std.specs.Prelude.{◌≡◌, ℕ, ◌≤◌, List, length, IfSome};
+ghost use Rattle.std.specs.Prelude.{ℕ, ◌≤◌, List, length, IfSome, OnOk};
 ghost use Rattle.rules.specs.Output.{judged_bytes};
 ghost use Rattle.printing.specs.Began.{Began};
 ghost use Rattle.files_moves.specs.Printing.{PrintsMoves, AppendsMoves};
 
-use files::{ORDER_INPUT, Outcome};
+use files::{FileError, ORDER_INPUT};
 use rules::Style;
 use std::env::Env;
 use std::io::{Read, Write};
@@ -26,17 +26,14 @@ const WORD: usize = 16;
 fn word<E: Env>(env: &E, number: usize, buffer: &mut [u8]) -> usize
     ensures { result ≤ length buffer.new }
 {
-    match env.arg(number, buffer) {
-        Ok(n) => n,
-        Err(_) => 0,
-    }
+    env.arg(number, buffer).unwrap_or(0)
 }
 
-// The page begins with what is to be printed of the order file read, with the tool of the program's arguments: pitch, depth and clearance. Returns how many bytes that is.
-fn fill<E: Env>(style: Style, order: &[u8], n: usize, page: &mut [u8], env: &E) -> usize
-    requires { (length order.now ≡ judged_bytes) × (n ≤ length order.now) × (983104 ≤ length page.old) }
+// The page begins with what is to be printed of the bytes read of an order file, with the tool of the program's arguments: pitch, depth and clearance. Returns how many bytes that is.
+fn fill<E: Env>(style: Style, order: &[u8], page: &mut [u8], env: &E) -> usize
+    requires { 983104 ≤ length page.old }
     ensures within { result ≤ length page.new }
-    ensures printed { (file : List ℕ) → Began file order.now n → PrintsMoves style file page.old page.new result }
+    ensures printed { (file : List ℕ) → Began file judged_bytes order.now → PrintsMoves style file page.old page.new result }
 {
     let mut pitch = [0u8; WORD];
     let mut depth = [0u8; WORD];
@@ -49,7 +46,6 @@ fn fill<E: Env>(style: Style, order: &[u8], n: usize, page: &mut [u8], env: &E) 
     printing_moves::moves_page(
         style,
         order,
-        n,
         &pitch[..p],
         &depth[..d],
         &clearance[..c],
@@ -65,15 +61,17 @@ fn blank() -> [u8; PAGE] {
 }
 
 // The moves program of a style, from a file that is open to a writer.
-pub fn moves<R: Read, W: Write, E: Env>(style: Style, from: &mut R, to: &mut W, env: &E) -> Outcome
-    ensures { result ≡ Outcome.Written → IfSome (R.remaining from.old) (λ file. AppendsMoves style file (W.contents to.old) (W.contents to.new)) }
+pub fn moves<R: Read, W: Write, E: Env>(
+    style: Style,
+    from: &mut R,
+    to: &mut W,
+    env: &E,
+) -> Result<(), FileError>
+    ensures { OnOk result (IfSome (R.remaining from.old) (λ file. AppendsMoves style file (W.contents to.old) (W.contents to.new))) }
 {
     let mut order = [0u8; ORDER_INPUT];
-    let input = files::read_input(from, &mut order);
-    if input.failed {
-        return Outcome::NotRead;
-    }
+    let read = files::read_input(from, &mut order)?;
     let mut page = blank();
-    let length = fill(style, &order, input.bytes, &mut page, env);
-    files::print(to, &page[..length])
+    let filled = fill(style, &order[..read], &mut page, env);
+    files::print(to, &page[..filled])
 }

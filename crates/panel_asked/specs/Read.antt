@@ -6,11 +6,12 @@ use Rattle.rules.specs.Points.{Drawing as Plan}
 use Rattle.rules.specs.OrderFile.{read_order}
 use Rattle.exchange.specs.WholeRead.{whole_read}
 use Rattle.store_links.specs.declared.Counts.{Counts}
+use Rattle.store_tables.specs.declared.Table.{Table}
 use Rattle.store_tables.specs.Tables.{arrays_in}
 use Rattle.read_orders.specs.Points.{Gave, gave-good, gave-refused}
 use Rattle.panel_asked.specs.Asking.{Drew, HasDrawing, has-drew}
 
-module _ (τ : Style) (f t : List ℕ) {a : Answer Counts} (g : Gave (read_order τ f) (arrays_in t) a) where
+module _ (τ : Style) (f : List ℕ) (t : Table) {a : Answer Counts} (g : Gave (read_order τ f) (arrays_in t) a) where
   -- What the rules give was drawn into the table,
   pub drew-read : Drew (read_order τ f) t a
   drew-read = go (read_order τ f) refl

@@ -5,6 +5,7 @@ use Rattle.rules.specs.declared.Refused.{Refused}
 use Rattle.exchange.specs.Built.{Reached}
 use Rattle.store_links.specs.declared.Counts.{Counts}
 use Rattle.store_laws.specs.Adding.{Holds}
+use Rattle.store_tables.specs.declared.Table.{Table}
 use Rattle.store_tables.specs.Tables.{arrays_in}
 use Rattle.panel_asked.specs.Asking.{Drew}
 use Rattle.rules.specs.declared.Style.{Style}
@@ -39,7 +40,7 @@ pub record FileTold (Gives : Result Plan → Type 0) (short : ℕ) (before after
 abbrev pub CallsExported : Style → ℕ → List ℕ → List ℕ → List ℕ → List ℕ → List ℕ → ℕ → List ℕ → Type 0
 CallsExported τ n ws saidBefore saidAfter before after r refusal = FileTold (CallsGive τ n ws saidBefore saidAfter) answers_buffer before after r refusal
 
-module _ {Gives : Result Plan → Type 0} {short : ℕ} {before : List ℕ} (t : List ℕ) {r : ℕ} {refusal : List ℕ} where
+module _ {Gives : Result Plan → Type 0} {short : ℕ} {before : List ℕ} (t : Table) {r : ℕ} {refusal : List ℕ} where
   -- The file of the drawing that the table holds.
   pub told-drawn : {after : List ℕ} {w : Answer ℕ} (o : Result Plan) (c : Counts) → Gives o → Drew o t (Ok c) → ((q : Plan) → Reached q → Holds q (arrays_in t) c → Wrote before (write_drawing q) after w) →
       r ≡ code_of (file_given w) → refusal ≡ refusal_of output_buffer (file_given w) → FileTold Gives short before after r refusal

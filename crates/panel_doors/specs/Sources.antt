@@ -10,6 +10,7 @@ use Rattle.rules.specs.OrderFile.{read_order}
 use Rattle.exchange.specs.Built.{Reached}
 use Rattle.exchange.specs.Reaching.{reached-drawn}
 use Rattle.store_links.specs.declared.Counts.{Counts}
+use Rattle.store_tables.specs.declared.Table.{Table}
 use Rattle.drawing.specs.declared.Drawing.{Drawing}
 use Rattle.drawing.specs.View.{Is, told_drawing}
 use Rattle.calls_words.specs.Lists.{calls_in}
@@ -61,6 +62,6 @@ module _ {τ : Style} {n : ℕ} {ws before after : List ℕ} where
       go-low false e = go-high (ltb-false _ _ e) (ltb 1024 n) refl
 
   -- what the list gives was drawn into the table
-  pub drew-ran : (r : Answer Counts) (t : List ℕ) → Ran τ n ws before after (drawing_in r t) → (o : Result Plan) × CallsGive τ n ws before after o × Drew o t r
+  pub drew-ran : (r : Answer Counts) (t : Table) → Ran τ n ws before after (drawing_in r t) → (o : Result Plan) × CallsGive τ n ws before after o × Drew o t r
   drew-ran (Ok c) t h = let d = drew h in (good (drawn τ n (calls_in ws)), record { done = Ok (record { counts = c; table = t }); ran = h; is = refl }, (c, refl, d.0, d.1))
   drew-ran (Err e) t h = (refused e.refusal e.place, record { done = Err e; ran = h; is = refl }, refl)

@@ -7,7 +7,7 @@ ghost use Rattle.rules.specs.declared.Style.{Style};
 ghost use Rattle.rules.specs.Refusals.{Result as ResultOf};
 ghost use Rattle.rules.specs.Points.{Drawing as Plan};
 ghost use Rattle.rules.specs.DrawingFile.{draw_file, order_back};
-ghost use Rattle.store_points.specs.Zeros.{zeros};
+ghost use Rattle.store_tables.specs.Tables.{zeros};
 ghost use Rattle.panel_words.specs.Words.{buffer_number, no_buffer, output_buffer, answers_buffer};
 ghost use Rattle.panel_asked.specs.Asking.{Drew, HasDrawing, asks};
 ghost use Rattle.panel_doors.specs.Sources.{OrderGives, CallsGive};
@@ -20,7 +20,7 @@ use panel_asked::Question;
 use panel_words::Buffer;
 use rules::{Answer, Style};
 use store_links::Counts;
-use store_tables::{END, Table};
+use store_tables::Table;
 use tool::Tool;
 
 // Where a drawing comes from. What it answers on the way goes into `answers`; and it says which buffer of its own it can find too short.
@@ -103,7 +103,7 @@ pub fn file<S: Source>(
 ) -> u64
     ensures { FileTold (S.gives style source answers.old answers.new) S.short out.old out.new result refusal.new }
 {
-    let mut table = [0u16; END];
+    let mut table = Table::zeros();
     match source.draw_in(style, &mut table, answers) {
         Ok(c) => {
             let written = write_files::drawing_file(out, &table, c);
@@ -124,7 +124,7 @@ pub fn ask<A, const N: usize, Q: Question<A, N>, S: Source>(
 ) -> u64
     ensures { Asked (S.gives style source answers.old answers.new) (asks (Q.right question) Q.Found.given) S.short seen.old seen.new result refusal.new }
 {
-    let mut table = [0u16; END];
+    let mut table = Table::zeros();
     let drawn = source.draw_in(style, &mut table, answers);
     let found = panel_asked::find(drawn, &table, question);
     panel_told::tell(found, source.short(), seen, refusal)
@@ -142,7 +142,7 @@ pub fn moves<S: Source>(
 ) -> u64
     ensures { MovesTold (S.gives style source answers.old answers.new) S.short t kinds.old numbers.old kinds.new numbers.new result refusal.new }
 {
-    let mut table = [0u16; END];
+    let mut table = Table::zeros();
     let drawn = source.draw_in(style, &mut table, answers);
     let listed = panel_asked::moves_from(drawn, &table, t, kinds, numbers);
     panel_told::tell_listed(listed, source.short(), refusal)

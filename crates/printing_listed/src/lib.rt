@@ -1,25 +1,39 @@
 // What is printed of moves that were listed in two buffers: their lines, or the line of the refusal. For `printing_moves`: it asks for room.
 #![tactic(auto)]
 
-ghost use Rattle.std.specs.Prelude.{List, ◌+◌, ◌*◌, ◌≤◌, length};
-ghost use Rattle.rules.specs.Refusals.{Result};
+ghost use Rattle.std.specs.Prelude.{◌≡◌, List, ◌+◌, ◌*◌, ◌≤◌, length};
+ghost use Rattle.rules.specs.Refusals.{Result as Wanted};
 ghost use Rattle.rules.specs.Moves.{Move};
 ghost use Rattle.printing_line.specs.Putting.{Printed, line_room};
 ghost use Rattle.printing_move.specs.Lines.{move_most, move_room};
-ghost use Rattle.printing_listed.specs.Finishing.{Within, Shown, lines_of};
+ghost use Rattle.printing_listed.specs.Finishing.{refused_for, Within, Shown, lines_of};
 
-use answers::Listed;
-use rules::Refusal;
+use answers::NotListed;
+use rules::{Refusal, Refused};
+
+// The refusal that is printed where no moves were listed: a buffer that is too short is 24, at place 0.
+fn refused_for(why: NotListed) -> Refused
+    ensures { result ≡ refused_for why }
+{
+    match why {
+        NotListed::Refused(refused) => refused,
+        NotListed::KindsShort => Refusal::OutputShort.at(0),
+        NotListed::NumbersShort => Refusal::OutputShort.at(0),
+    }
+}
 
 // The page begins with the lines of the moves, or with that of the refusal. Returns how many bytes that is.
-pub fn finish(listed: Listed, kinds: &[u8], numbers: &[f32], page: &mut [u8]) -> usize
+pub fn finish(
+    listed: Result<usize, NotListed>,
+    kinds: &[u8],
+    numbers: &[f32],
+    page: &mut [u8],
+) -> usize
     requires { Within listed (length kinds.now) (length numbers.now) × (move_most * length kinds.now + move_room ≤ length page.old) × (line_room ≤ length page.old) }
-    ensures { (wanted : Result (List Move)) → Shown wanted kinds.now numbers.now listed → Printed page.old (lines_of wanted) page.new result }
+    ensures { (wanted : Wanted (List Move)) → Shown wanted kinds.now numbers.now listed → Printed page.old (lines_of wanted) page.new result }
 {
     match listed {
-        Listed::Moves(count) => printing_move::put_moves(page, kinds, numbers, count),
-        Listed::Refused(r, p) => printing_line::put_refusal(page, r, p),
-        Listed::KindsShort => printing_line::put_refusal(page, Refusal::OutputShort, 0),
-        Listed::NumbersShort => printing_line::put_refusal(page, Refusal::OutputShort, 0),
+        Ok(count) => printing_move::put_moves(page, kinds, numbers, count),
+        Err(why) => printing_line::put_refusal(page, refused_for(why)),
     }
 }

@@ -1,5 +1,5 @@
 -- 24 never happens: buffers for the moves of every drawing hold an order file's moves, and the page then begins with their lines.
-use Rattle.std.specs.Prelude.{ℕ, ◌+◌, ◌*◌, ◌≤◌, ◌≡◌, refl, false, List, ◌++◌, length, take, drop, ltb, Float}
+use Rattle.std.specs.Prelude.{ℕ, ◌+◌, ◌*◌, ◌≤◌, ◌≡◌, refl, false, List, ◌++◌, length, take, drop, ltb, Float, Result as Outcome, Ok}
 use Rattle.std.proofs.Common.{sym, ap, ◌∙◌, subst, arith, length-append, take_at, le-ltb}
 use Rattle.rules.specs.declared.Style.{Style}
 use Rattle.rules.specs.Refusals.{Result, good, refused, ◌>>=◌}
@@ -11,8 +11,7 @@ use Rattle.rules.specs.MoveLines.{move_lines, moves_program}
 use Rattle.rules.specs.Output.{judged_bytes, printed}
 use Rattle.tool.specs.declared.Tool.{Tool}
 use Rattle.tool.specs.Checking.{whole_tool}
-use Rattle.answers.specs.declared.Listed.{Listed}
-use Rattle.answers.specs.declared.Listed.TheVariants.{Moves}
+use Rattle.answers.specs.declared.NotListed.{NotListed}
 use Rattle.cutter_lists.specs.Listing.{kinds_of, numbers_of, length-kinds, length-numbers}
 use Rattle.cutter.specs.Lists.{Lists}
 use Rattle.printing_line.specs.Putting.{Printed}
@@ -34,7 +33,7 @@ moves_in τ f t = read_order τ f >>= λ d. given_moves d (whole_tool t)
 
 -- ---- the moves that are listed are those wanted
 
-module _ {kinds : List ℕ} {numbers : List Float} {kinds' : List ℕ} {numbers' : List Float} {listed : Listed} (kindly : most_moves ≤ length kinds) (wide : 2 * most_moves ≤ length numbers) where
+module _ {kinds : List ℕ} {numbers : List Float} {kinds' : List ℕ} {numbers' : List Float} {listed : Outcome ℕ NotListed} (kindly : most_moves ≤ length kinds) (wide : 2 * most_moves ≤ length numbers) where
   module _ (ms : List Move) (roomy : Roomy (good ms)) (l : Lists (good ms) kinds numbers kinds' numbers' listed) where
     -- both have room,
     kinds-fit : ltb (length kinds) (length ms) ≡ false
@@ -44,7 +43,7 @@ module _ {kinds : List ℕ} {numbers : List Float} {kinds' : List ℕ} {numbers'
     numbers_fit = le-ltb (length numbers) (2 * length ms) (omega (arith, roomy.few ms refl))
 
     -- so all are listed
-    all_listed : listed ≡ Moves (length ms)
+    all_listed : listed ≡ Ok (length ms)
     all_listed = rw (kinds-fit, numbers_fit) at l.answer
 
     kinds_hold : kinds' ≡ kinds_of ms ++ drop (length (kinds_of ms)) kinds
@@ -72,7 +71,7 @@ module _ {kinds : List ℕ} {numbers : List Float} {kinds' : List ℕ} {numbers'
   pub shown : (wanted : Result (List Move)) → Roomy wanted → Lists wanted kinds numbers kinds' numbers' listed → Shown wanted kinds' numbers' listed
   shown (good ms) roomy l =
       record {
-        moves = λ ns e. subst (λ (o : List Move). (listed ≡ Moves (length o)) × Held o kinds' numbers') (same_value ms ns e) (all_listed ms roomy l, all_held ms roomy l);
+        moves = λ ns e. subst (λ (o : List Move). (listed ≡ Ok (length o)) × Held o kinds' numbers') (same_value ms ns e) (all_listed ms roomy l, all_held ms roomy l);
         refusal = λ r p e. absurd (never-good (sym e));
       }
   shown (refused r p) roomy l = record { moves = λ ns e. absurd (never-good e); refusal = λ s q e. let a = l.answer in cc }
@@ -89,8 +88,8 @@ program-lines t w s (good d) = ap lines_of (same_moves d t w s)
 program-lines t w s (refused r p) = refl
 
 -- "It judges the first 32,768 bytes of its input as the whole file": the bytes read are these
-pub prints : (τ : Style) (t : Tool) {w : WholeTool} → SameTool t w → (file : List ℕ) {buffer page after : List ℕ} {n r : ℕ} → Began file buffer n → length buffer ≡ judged_bytes →
-    Printed page (lines_of (moves_in τ (take n buffer) t)) after r → Printed page (moves_program τ w file) after r
-prints τ t {w} s file {page = page} {after} {r = r} b h p =
+pub prints : (τ : Style) (t : Tool) {w : WholeTool} → SameTool t w → (file : List ℕ) {read page after : List ℕ} {r : ℕ} → Began file judged_bytes read →
+    Printed page (lines_of (moves_in τ read t)) after r → Printed page (moves_program τ w file) after r
+prints τ t {w} s file {page = page} {after} {r} b p =
     subst (λ (l : List ℕ). Printed page l after r) (program-lines t w s (read_order τ (take judged_bytes file)))
-    (subst (λ (f : List ℕ). Printed page (lines_of (moves_in τ f t)) after r) (b.is ∙ ap (λ (k : ℕ). take k file) h) p)
+    (subst (λ (f : List ℕ). Printed page (lines_of (moves_in τ f t)) after r) b.is p)

@@ -2,7 +2,7 @@
 // The functions ask for buffers for the moves of every drawing, so that 24 never happens; `files_moves` has them.
 #![tactic(auto)]
 
-ghost use Rattle.std.specs.Prelude.{◌≡◌, ℕ, ◌≤◌, List, length};
+ghost use Rattle.std.specs.Prelude.{ℕ, ◌≤◌, List, length};
 ghost use Rattle.rules.specs.MoveLines.{words_tool, moves_program};
 ghost use Rattle.rules.specs.Output.{judged_bytes};
 ghost use Rattle.printing_line.specs.Putting.{Printed};
@@ -11,7 +11,7 @@ ghost use Rattle.printing.specs.Began.{Began};
 ghost use Rattle.printing_moves.specs.Paging.{Room, moves_in};
 
 use rules::Style;
-use store_tables::END;
+use store_tables::Table;
 use tool::Tool;
 
 // The page begins with the moves of an order file's drawing for this tool, or with the line of the refusal. Returns how many bytes that is.
@@ -26,19 +26,17 @@ fn tool_page(
     requires { Room (length kinds.old) (length numbers.old) (length page.old) }
     ensures { Printed page.old (lines_of (moves_in style order.now t)) page.new result }
 {
-    let mut table = [0u16; END];
-    let read = read_orders::read_order(order, style, &mut table);
-    let answer = read.answer;
-    let listed = panel_asked::moves_from(answer, &table, read.counts, t, kinds, numbers);
+    let mut table = Table::zeros();
+    let drawn = read_orders::read_order(order, style, &mut table);
+    let listed = panel_asked::moves_from(drawn, &table, t, kinds, numbers);
     printing_listed::finish(listed, kinds, numbers, page)
 }
 
-// A moves program: n bytes of an order file were read into `input`, and three words are the tool; the page then begins with what is to be printed.
+// A moves program: these bytes of an order file were read, and three words are the tool; the page then begins with what is to be printed.
 // Returns how many bytes that is. As the drawing program, it judges the first 32,768 bytes of the file as the whole file.
 pub fn moves_page(
     style: Style,
-    input: &[u8],
-    n: usize,
+    order: &[u8],
     pitch: &[u8],
     depth: &[u8],
     clearance: &[u8],
@@ -46,9 +44,10 @@ pub fn moves_page(
     numbers: &mut [f32],
     page: &mut [u8],
 ) -> usize
-    requires { (length input.now ≡ judged_bytes) × (n ≤ length input.now) × Room (length kinds.old) (length numbers.old) (length page.old) }
-    ensures { (file : List ℕ) → Began file input.now n → Printed page.old (moves_program style (words_tool pitch.now depth.now clearance.now) file) page.new result }
+    requires { Room (length kinds.old) (length numbers.old) (length page.old) }
+    ensures within { result ≤ length page.new }
+    ensures prints { (file : List ℕ) → Began file judged_bytes order.now → Printed page.old (moves_program style (words_tool pitch.now depth.now clearance.now) file) page.new result }
 {
     let t = printing_words::words_tool(pitch, depth, clearance);
-    tool_page(style, &input[..n], t, kinds, numbers, page)
+    tool_page(style, order, t, kinds, numbers, page)
 }

@@ -1,6 +1,6 @@
 -- A word's number, digit by digit, and as an f32 of a tool.
-use Rattle.std.specs.Prelude.{ℕ, ◌+◌, ◌-◌, ◌*◌, ◌≤◌, ◌<◌, ◌≡◌, refl, Bool, true, false, List, leb, length, drop, get_or, Float, if◌then◌else◌}
-use Rattle.std.proofs.Common.{ap, sym, ◌∙◌, true≢false, arith, add-one, drop_of_length-le, drop-cons}
+use Rattle.std.specs.Prelude.{ℕ, ◌+◌, ◌-◌, ◌*◌, ◌≤◌, ◌<◌, ◌≡◌, refl, Bool, true, false, ◌&&◌, Option, Some, None, List, [], ◌∷◌, leb, length, Float, if◌then◌else◌}
+use Rattle.std.proofs.Common.{ap, sym, ◌∙◌, true≢false, arith}
 use Rattle.std.proofs.Math.Bool.{and-false}
 use Rattle.std.proofs.lemmas.Bool.{lt-leb}
 use Rattle.std.specs.Float.{nan, inf, fin}
@@ -8,6 +8,7 @@ use Rattle.std.specs.Float.Ieee.Exact.{HasValue}
 use Rattle.rules.specs.Basics.{between, all_of}
 use Rattle.rules.specs.Bools.{both}
 use Rattle.rules.specs.Decimal.{is_digit, value_from}
+use Rattle.rules.specs.MoveLines.{word_number}
 use Rattle.rules.specs.Points.{Drawing as Plan}
 use Rattle.rules.specs.Moves.{Tool as WholeTool, is_tool, given_moves}
 use Rattle.tool.specs.declared.Tool.{Tool}
@@ -16,22 +17,35 @@ use Rattle.tool.specs.Laws.{quotient}
 
 -- ---- digit by digit
 
--- the number that digits behind v make; 0 if one of them isn't a digit
-abbrev pub number_from : ℕ → List ℕ → ℕ
-number_from v w = if all_of is_digit w then value_from v w else 0
+-- the number that digits behind v make; none if one of them isn't a digit
+abbrev pub digits_from : ℕ → List ℕ → Option ℕ
+digits_from v [] = Some v
+digits_from v (d ∷ ds) = if is_digit d then digits_from (10 * v + (d - 48)) ds else None
 
-module _ (v : ℕ) (w : List ℕ) (i : ℕ) where
-  -- byte i isn't a digit
-  pub number_none : i < length w → is_digit (get_or w i 0) ≡ false → number_from v (drop i w) ≡ 0
-  number_none h e = rw (drop-cons w i 0 h, e)
+-- the number of a word of one to eight digits
+abbrev pub word_value : List ℕ → Option ℕ
+word_value w = if between 1 8 (length w) then digits_from 0 w else None
 
-  -- it is one
-  pub number_next : i < length w → is_digit (get_or w i 0) ≡ true → number_from v (drop i w) ≡ number_from (10 * v + (get_or w i 0 - 48)) (drop (i + 1) w)
-  number_next h e = rw (drop-cons w i 0 h, e, add-one i)
+-- it, or 0
+abbrev pub or_zero : Option ℕ → ℕ
+or_zero (Some v) = v
+or_zero None = 0
 
--- there is no byte i
-pub number_all : (v : ℕ) (w : List ℕ) (i : ℕ) → length w ≤ i → number_from v (drop i w) ≡ v
-number_all v w i h = rw (drop_of_length-le w h)
+from_digits : (v : ℕ) (w : List ℕ) → or_zero (digits_from v w) ≡ (if all_of is_digit w then value_from v w else 0)
+from_digits v [] = refl
+from_digits v (d ∷ ds) = go (is_digit d) (from_digits (10 * v + (d - 48)) ds)
+  where
+    go : (t : Bool) → or_zero (digits_from (10 * v + (d - 48)) ds) ≡ (if all_of is_digit ds then value_from (10 * v + (d - 48)) ds else 0) → or_zero (if t then digits_from (10 * v + (d - 48)) ds else None) ≡ (if t && all_of is_digit ds then value_from (10 * v + (d - 48)) ds else 0)
+    go true e = e
+    go false e = refl
+
+-- THE RULES' NUMBER OF A WORD is that, or 0
+pub word_is : (w : List ℕ) → or_zero (word_value w) ≡ word_number w
+word_is w = go (between 1 8 (length w)) refl
+  where
+    go : (t : Bool) → between 1 8 (length w) ≡ t → or_zero (if t then digits_from 0 w else None) ≡ (if t && all_of is_digit w then value_from 0 w else 0)
+    go true e = from_digits 0 w
+    go false e = refl
 
 -- ---- as an f32
 

@@ -1,10 +1,8 @@
--- What is to be printed lies within the page.
-use Rattle.std.proofs.Common.{arith, sym, length-take-le}
-use Rattle.printing.specs.Began.{began_itself}
+-- What is printed of the bytes read is what the program prints of the file.
+use Rattle.rules.specs.Output.{program}
+use Rattle.printing_line.specs.Putting.{first_printed}
+use Rattle.files.specs.Running.{written}
 use Rattle.files.proofs.draw.Goals as goal
 
-pub slice_bounds-page-end : goal.slice_bounds-page-end
-slice_bounds-page-end g c = (c.draw_page-length.ensures _ (began_itself _ _ (omega (arith, c.read_input-input.ensures.within)))).fits
-
-pub slice_bounds-print-end : goal.slice_bounds-print-end
-slice_bounds-print-end g c = sym (length-take-le _ _ (c.draw_page-length.ensures _ (began_itself _ _ (omega (arith, c.read_input-input.ensures.within)))).fits)
+pub returns : goal.returns
+returns g c = written c.print.result (g.R.Read.remaining c.args.from.now) (program c.args.style) _ _ c.in_ok-read.ensures.began (λ file began. first_printed (c.draw_page-filled.ensures.prints file began)) c.print.ensures

@@ -1,9 +1,14 @@
--- `printing::undraw_page` meets its contract: what the bytes read tell is what the file tells, and the page has room for it.
-use Rattle.std.proofs.Common.{arith}
+-- `printing::undraw_page` meets its contract: so many bytes of the file tell as much as the whole, and the page has room for the order file.
+use Rattle.std.proofs.Common.{◌∙◌, ap}
+use Rattle.rules.specs.DrawingFile.{order_back}
+use Rattle.exchange.specs.FirstBytes.{first_bytes}
 use Rattle.printing.specs.Finishing.{order-room}
-use Rattle.printing.specs.Began.{undraws}
 use Rattle.printing.proofs.undraw_page.Goals as goal
 
-pub returns : goal.returns
-returns c file began =
-    c.finish.ensures _ _ (order-room _ _ _ (omega (arith, c.requires.2))) (undraws _ file began (omega (arith, c.requires.0)) c.undraw-written.ensures.wrote)
+pub returns-clause-within : goal.returns-clause-within
+returns-clause-within c = (c.finish.ensures _ _ (order-room _ _ _ c.requires) c.undraw-written.ensures.wrote).fits
+
+pub returns-clause-prints : goal.returns-clause-prints
+returns-clause-prints c file size more began =
+    let same = ap (order_back c.args.style) began.is ∙ first_bytes c.args.style size file more in
+    rw (← same) (c.finish.ensures _ _ (order-room _ _ _ c.requires) c.undraw-written.ensures.wrote)

@@ -2,9 +2,8 @@
 use Rattle.printing_import.specs.Finishing.{finished-order, finished-order-line}
 use Rattle.printing_import.proofs.finish_order.Goals as goal
 
-pub returns-in-Sizes : goal.returns-in-Sizes
-returns-in-Sizes c wanted before list list' s = finished-order s c.in-Sizes.is
+pub returns-in-Ok : goal.returns-in-Ok
+returns-in-Ok c wanted before list list' s = finished-order s c.in-Ok.is
 
-pub returns-in-Refused : goal.returns-in-Refused
-returns-in-Refused c wanted before list list' s =
-    finished-order-line s c.in-Refused.is c.put_refusal.ensures
+pub returns-in-Err : goal.returns-in-Err
+returns-in-Err c wanted before list list' s = finished-order-line s c.in-Err.is (rw (← c.refused_for.ensures) c.put_refusal.ensures)

@@ -2,6 +2,8 @@
 use Rattle.printing_import.specs.Finishing.{shown, prints-lines}
 use Rattle.printing_import.proofs.vertices_page.Goals as goal
 
-pub returns : goal.returns
-returns c file began =
-    prints-lines file began c.requires.0 (c.finish_list.ensures _ _ _ _ (shown _ c.requires.2 c.requires.3 c.import-imported.ensures.imports))
+pub returns-clause-within : goal.returns-clause-within
+returns-clause-within c = (c.finish_list.ensures _ _ _ _ (shown _ c.requires.0 c.requires.1 c.import-imported.ensures.imports)).fits
+
+pub returns-clause-prints : goal.returns-clause-prints
+returns-clause-prints c file began = prints-lines file began (c.finish_list.ensures _ _ _ _ (shown _ c.requires.0 c.requires.1 c.import-imported.ensures.imports))

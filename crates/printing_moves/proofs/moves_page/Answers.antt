@@ -2,5 +2,8 @@
 use Rattle.printing_moves.specs.Paging.{prints}
 use Rattle.printing_moves.proofs.moves_page.Goals as goal
 
-pub returns : goal.returns
-returns c file began = prints c.args.style c.words_tool-t.result c.words_tool-t.ensures file began c.requires.0 c.tool_page.ensures
+pub returns-clause-within : goal.returns-clause-within
+returns-clause-within c = c.tool_page.ensures.fits
+
+pub returns-clause-prints : goal.returns-clause-prints
+returns-clause-prints c file began = prints c.args.style c.words_tool-t.result c.words_tool-t.ensures file began c.tool_page.ensures
