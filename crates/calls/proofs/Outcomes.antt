@@ -21,6 +21,7 @@ use Rattle.promise.proofs.Theorem.{demand_3, wish_2}
 use Rattle.exchange.specs.Reaching.{reached-drawn}
 use Rattle.store_adding.specs.Calls.{Answered, call-accepted, call-refused}
 use Rattle.store_laws.specs.Opened.{sized_open, stores_open}
+use Rattle.store_tables.specs.declared.Table.{Table}
 use Rattle.store_tables.specs.Tables.{arrays_in}
 use Rattle.calls_words.specs.Lists.{calls_in, with_answer, place_in}
 use Rattle.calls.specs.Turns.{Made, Begun, Ended, Runs}
@@ -86,7 +87,7 @@ promised OneBend = demand_3
 promised Straight = wish_2
 
 -- Every call was made.
-pub accepted : {τ : Style} {n : ℕ} {ws before after : List ℕ} (t : List ℕ) {c : Counts} → Runs τ n ws before → Ended τ n ws before (arrays_in t) c after →
+pub accepted : {τ : Style} {n : ℕ} {ws before after : List ℕ} (t : Table) {c : Counts} → Runs τ n ws before → Ended τ n ws before (arrays_in t) c after →
     Ran τ n ws before after (Ok (record { counts = c; table = t }))
 accepted {τ} {n} {ws} t {c} h e =
     record {

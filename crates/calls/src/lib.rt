@@ -2,15 +2,14 @@
 #![tactic(auto)]
 
 ghost use Rattle.std.specs.Prelude.{◌≡◌, OnErr};
-ghost use Rattle.store_tables.specs.Tables.{arrays_in};
-ghost use Rattle.store_points.specs.Zeros.{zeros};
+ghost use Rattle.store_tables.specs.Tables.{arrays_in, zeros};
 ghost use Rattle.calls.specs.Turns.{Callable, Made, Begun, Ended, Runs};
 ghost use Rattle.calls.specs.Ran.{drawing_in, Ran};
 
 use drawing::Drawing;
 use rules::{Answer, FEWEST_POINTS, MOST_POINTS, Refusal, Style};
 use store_links::Counts;
-use store_tables::{END, Table};
+use store_tables::Table;
 
 // One call on the lent table, with its answer at `at` of the buffer; gives the numbers after it.
 fn one_call(table: &mut Table, c: Counts, e: &[u16], answers: &mut [u16], at: usize) -> Counts
@@ -94,7 +93,7 @@ pub fn run_in(
 pub fn run(style: Style, n: usize, calls: &[u16], answers: &mut [u16]) -> Answer<Drawing>
     ensures { Ran style n calls.now answers.old answers.new result }
 {
-    let mut table = [0u16; END];
+    let mut table = Table::zeros();
     let counts = run_in(&mut table, style, n, calls, answers)?;
     Ok(Drawing { counts, table })
 }

@@ -1,11 +1,12 @@
 -- Where a move is found: in which line, and how many moves stand before that line's.
-use Rattle.std.specs.Prelude.{ℕ, ◌+◌, ◌*◌, ◌<◌, ◌≤◌, ◌≡◌, List, length, Option, Some, None}
+use Rattle.std.specs.Prelude.{ℕ, ◌+◌, ◌*◌, ◌<◌, ◌≤◌, ◌≡◌, length, Option, Some, None}
 use Rattle.std.proofs.Common.{sym, ap, ◌∙◌, add-one, arith, length-append}
 use Rattle.rules.specs.Points.{Drawing as Plan, line_at}
 use Rattle.rules.specs.Moves.{Tool as WholeTool, moves_of, all_moves}
 use Rattle.store_links.specs.declared.Counts.{Counts}
 use Rattle.store_links.specs.Arrays.{Arrays}
 use Rattle.store_laws.specs.Adding.{Holds}
+use Rattle.store_tables.specs.declared.Table.{Table}
 use Rattle.store_tables.specs.Tables.{arrays_in}
 use Rattle.tool.specs.declared.Numbers.{Numbers}
 use Rattle.tool.specs.Checking.{tool_of}
@@ -28,7 +29,7 @@ Finds q t i (Some r) = FindsMove q t i r
 Finds q t i None = length (all_moves q t) ≤ i
 
 -- a buffer has room for all kinds, and one for all numbers
-abbrev pub RoomIn : List ℕ → Counts → Numbers → ℕ → ℕ → Type 0
+abbrev pub RoomIn : Table → Counts → Numbers → ℕ → ℕ → Type 0
 RoomIn table c t kinds numbers = (q : Plan) → Holds q (arrays_in table) c → (length (all_moves q (tool_of t)) ≤ kinds) × (2 * length (all_moves q (tool_of t)) ≤ numbers)
 
 -- What is counted of a line is how many moves it gives.

@@ -13,6 +13,7 @@ use Rattle.exchange.specs.Demand2.{drawn_as}
 use Rattle.exchange.specs.WholeRead.{whole_read}
 use Rattle.read_orders.specs.Points.{Gave}
 use Rattle.drawing.specs.declared.Drawing.{Drawing}
+use Rattle.store_tables.specs.declared.Table.{Table}
 use Rattle.store_tables.specs.Tables.{arrays_in}
 use Rattle.drawing.specs.View.{Came}
 use Rattle.drawing.specs.Opens.{Gives}
@@ -24,7 +25,7 @@ pub reached_in : {d : Drawing} → Came d → ReachedIn (arrays_in d.table) d.co
 reached_in c = record { d = c.plan; reached = c.reached; holds = c.is }
 
 -- An accepted order file gives, by value, the drawing that the table holds,
-pub given : (τ : Style) (f : List ℕ) {t : List ℕ} {c : Counts} → Gave (read_order τ f) (arrays_in t) (Ok c) → Gives (read_order τ f) (Ok (record { counts = c; table = t }))
+pub given : (τ : Style) (f : List ℕ) {t : Table} {c : Counts} → Gave (read_order τ f) (arrays_in t) (Ok c) → Gives (read_order τ f) (Ok (record { counts = c; table = t }))
 given τ f g =
     let o = g.gives in
     record { answer = rw o.is; drawing = rw o.is (o.holds, record { plan = o.drawing; reached = (whole_read τ f o.drawing o.is).reached; is = o.holds }) }

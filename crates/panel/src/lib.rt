@@ -18,7 +18,7 @@ ghost use Rattle.write_files.specs.Finishing.{whole_order};
 use drawing::Drawing;
 use rules::{Answer, LONGEST_DRAWING, Style};
 use store_links::Counts;
-use store_tables::{END, Table};
+use store_tables::Table;
 
 // The drawing of an order file in a style, by value, which keeps the promise of that style, or the refusal of document 01.
 #[tactic(auto, using(crate::proofs::Keeping::keeping))]
@@ -26,7 +26,7 @@ pub fn drawing_of(style: Style, order: &[u8]) -> Answer<Drawing>
     ensures given { Gives (read_order style order.now) result }
     ensures keeps { (d : Plan) → read_order style order.now ≡ good d → Promised style d }
 {
-    let mut table = [0u16; END];
+    let mut table = Table::zeros();
     let counts = read_orders::read_order(order, style, &mut table)?;
     Ok(Drawing { counts, table })
 }
@@ -53,7 +53,7 @@ pub fn draw(style: Style, order: &[u8], out: &mut [u8]) -> Answer<usize>
     ensures wrote { Wrote out.old (draw_file style order.now) out.new result }
     ensures keeps { (d : Plan) → read_order style order.now ≡ good d → Promised style d }
 {
-    let mut table = [0u16; END];
+    let mut table = Table::zeros();
     let c = read_orders::read_order(order, style, &mut table)?;
     write_files::put_drawing(out, &table, c)
 }
@@ -74,7 +74,7 @@ pub fn undraw(style: Style, file: &[u8], out: &mut [u8]) -> Answer<usize>
     ensures wrote { Wrote out.old (order_back style file.now) out.new result }
     ensures keeps { (d : Plan) → read_drawing style file.now ≡ good d → Promised style d }
 {
-    let mut table = [0u16; END];
+    let mut table = Table::zeros();
     let c = read_drawings::read_lines(file, style, &mut table)?;
     compare_drawing(file, &table, c)?;
     write_files::put_order(out, &table, c)

@@ -3,8 +3,7 @@
 #![tactic(auto)]
 
 ghost use Rattle.std.specs.Prelude.{◌≡◌, length};
-ghost use Rattle.store_tables.specs.Tables.{arrays_in};
-ghost use Rattle.store_points.specs.Zeros.{zeros};
+ghost use Rattle.store_tables.specs.Tables.{arrays_in, zeros};
 ghost use Rattle.read_drawings.specs.Whole.{Passes};
 ghost use Rattle.read_drawings.specs.Contracted.{Groups, Grouped, AllGrouped, LinesRead};
 

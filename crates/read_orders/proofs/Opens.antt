@@ -14,6 +14,7 @@ use Rattle.store_links.specs.Opening.{open_arrays, open_counts}
 use Rattle.promise.proofs.Bounds.{standing-start}
 use Rattle.store_laws.specs.Opened.{sized_open, stores_open}
 use Rattle.store_laws.specs.Adding.{Holds, Ready}
+use Rattle.store_tables.specs.declared.Table.{Table}
 use Rattle.read_records.specs.Cursors.{cursor}
 use Rattle.read_start.specs.Starting.{points_from, Begun}
 use Rattle.read_orders.specs.Points.{Gave, RestRead, Headed}
@@ -26,7 +27,7 @@ entry_is w p h = λ i. record { point = h i; kind = (entry_of w).kind }
 abbrev begin : Style → ℕ → ℕ → ℕ → ℕ → ℕ → Drawing
 begin τ n s a b c = start_with τ n s (entry_of a ∷ []) (entry_of b ∷ entry_of c ∷ [])
 
-module _ (f : List ℕ) (at : ℕ) {n : ℕ} {t : List ℕ} (z : Headed n t) (τ : Style) (s : ℕ) where
+module _ (f : List ℕ) (at : ℕ) {n : ℕ} {t : Table} (z : Headed n t) (τ : Style) (s : ℕ) where
   -- points 1 to 3 are there
   module _ {a b c next : ℕ} (begun : Begun f (points_from (cursor f at)) a b c next) where
     -- the arrays and the numbers as opened

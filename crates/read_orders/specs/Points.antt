@@ -8,7 +8,8 @@ use Rattle.rules.specs.OrderFile.{read_rest}
 use Rattle.store_links.specs.declared.Counts.{Counts}
 use Rattle.store_links.specs.Arrays.{Arrays}
 use Rattle.store_laws.specs.Adding.{Holds}
-use Rattle.store_points.specs.Zeros.{zeros}
+use Rattle.store_tables.specs.declared.Table.{Table}
+use Rattle.store_tables.specs.Tables.{zeros}
 use Rattle.read_orders.specs.declared.Step.{Step}
 use Rattle.read_records.specs.Cursors.{cursor}
 
@@ -56,7 +57,7 @@ abbrev pub RestRead : List ℕ → ℕ → ℕ → Arrays → Counts → Arrays 
 RestRead f at k a c a' r = (d : Drawing) → Holds d a c → Gave (read_rest k d (cursor f at)) a' r
 
 -- a table of zeros, behind the header of a file with n points
-pub record Headed (n : ℕ) (t : List ℕ) : Type 0 where
+pub record Headed (n : ℕ) (t : Table) : Type 0 where
   pub blank : t ≡ zeros
   pub low : 3 ≤ n
   pub high : n ≤ 1024

@@ -4,9 +4,8 @@
 
 ghost use Rattle.std.specs.Prelude.{◌≡◌, length};
 ghost use Rattle.rules.specs.OrderFile.{read_points, read_order};
-ghost use Rattle.store_tables.specs.Tables.{arrays_in};
+ghost use Rattle.store_tables.specs.Tables.{arrays_in, zeros};
 ghost use Rattle.store_laws.specs.Adding.{Ready};
-ghost use Rattle.store_points.specs.Zeros.{zeros};
 ghost use Rattle.read_records.specs.Cursors.{cursor};
 ghost use Rattle.read_orders.specs.Points.{PointRead, RestRead, Headed, Gave};
 
