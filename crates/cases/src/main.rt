@@ -49,11 +49,14 @@ fn run<R: Files, W: Write, V: Write>(rt: &R, name: &[u8], to: &mut W, errors: &m
     }
 }
 
-// Every case that a line names; nothing stands behind the last line feed.
+// Every case that a line names.
+// The lines are cut off one by one: a `for` over the library's `split` is refused in a generic function.
 fn run_all<R: Files, W: Write, V: Write>(rt: &R, text: &[u8], to: &mut W, errors: &mut V) {
-    let lines = text.strip_suffix(b"\n").unwrap_or(text);
-    for name in lines.split(|&b| b == b'\n') {
-        run(rt, name, to, errors);
+    let mut rest = text;
+    while !rest.is_empty() {
+        let end = rest.iter().position(|&b| b == b'\n').unwrap_or(rest.len());
+        run(rt, &rest[..end], to, errors);
+        rest = &rest[rest.len().min(end + 1)..];
     }
 }
 
