@@ -8,7 +8,6 @@ use drawing::Drawing;
 use rules::Style;
 use std::io;
 use std::io::Read;
-use store_tables::{BENDS, DLS, DRS, GAP, HS, LATER, NEXT, OWNER, WORDS, YS};
 
 // Turns the bytes into numbers, as many as both hold; gives how many.
 fn take_words(bytes: &[u8], out: &mut [u16]) -> usize
@@ -25,9 +24,10 @@ fn take_words(bytes: &[u8], out: &mut [u16]) -> usize
 fn mix(d: Drawing, at: usize) -> u16
     requires { at < 1024 }
 {
-    let links = d.table[NEXT + at] ^ d.table[GAP + at] ^ d.table[OWNER + at];
-    let points = d.table[YS + at] ^ d.table[DLS + at] ^ d.table[DRS + at] ^ d.table[HS + at];
-    let lines = d.table[WORDS + at] ^ d.table[LATER + at] ^ d.table[BENDS + at];
+    let t = &d.table;
+    let links = t.next[at] ^ t.gap[at] ^ t.owner[at];
+    let points = t.ys[at] ^ t.dls[at] ^ t.drs[at] ^ t.hs[at];
+    let lines = t.words[at] ^ t.later[at] ^ t.bends[at];
     links ^ points ^ lines
 }
 
