@@ -2,12 +2,10 @@
 use Rattle.std.specs.Prelude.{ℕ, zero, suc, ◌+◌, ◌*◌, ◌<◌, ◌≤◌, ◌≡◌, refl, List, [], ◌∷◌, ◌++◌, map, length, get_or, take, drop}
 use Rattle.std.proofs.Math.Path.{ap}
 use Rattle.std.proofs.Common.{sym, ◌∙◌, subst, arith, add-zero, get_or-take, drop-cons}
-use Rattle.rules.specs.Basics.{index_of}
 use Rattle.rules.specs.Entries.{word_of}
 use Rattle.rules.specs.Records.{bytes_of, order_mark, entries_mark, end_mark}
 use Rattle.rules.proofs.Lengths.{bytes_append, length-bytes}
-use Rattle.planar_rules.specs.PlanarCode.{Flat, Point, points, vertices, point_of, plain, entry_words, records, order_file, vertex_list, first, second}
-use Rattle.planar_order.specs.Numbering.{AllLines, more as another}
+use Rattle.planar_rules.specs.PlanarCode.{Flat, points, vertices, point_of, plain, entry_words, records, order_file, vertex_list}
 use Rattle.planar_order.specs.Theorem.{Ordered}
 use Rattle.planar_order.proofs.Theorem.{order-length, list_length}
 use Rattle.planar_reading.specs.Reads.{net_in}
@@ -15,20 +13,11 @@ use Rattle.planar_reading.specs.declared.net.Net.{Net}
 use Rattle.planar_choosing.specs.Rows.{Apart}
 use Rattle.planar_numbering.specs.Points.{points_in}
 use Rattle.planar_numbering.specs.Numbered.{AllNumbered}
-use Rattle.planar_writing.specs.Words.{Known, numbers_of, point_words, points_words, order_words, Puttable}
+use Rattle.planar_writing.specs.Words.{numbers_of, point_words, points_words, order_words, Puttable}
 use Rattle.words.specs.Writing.{Stored}
 use Rattle.planar.specs.Net.{TakenIn, its_order}
 
 -- ---- words and bytes
-
--- all entries are vertices below n
-data Within (n : ℕ) : List Point → Type 0 where
-  none : Within n []
-  more : {p : Point} {ps : List Point} → ((x : ℕ) → x < length p.entries → get_or p.entries x 0 < n) → Within n ps → Within n (p ∷ ps)
-
-within-lines : (f : Flat) → ((d : ℕ) → d < f.D → f.nbr d < f.n) → (ps : List Point) → AllLines f ps → Within f.n ps
-within-lines f h [] a = none
-within-lines f h (p ∷ ps) (another l a) = more {p = p} (λ x xl. let w = l.is_line x xl in subst (λ v. v < f.n) w.3 (h w.0 w.1)) (within-lines f h ps a)
 
 -- a plain entry's word is its point
 plain_word : (p : ℕ) → word_of (plain p) ≡ p
@@ -55,12 +44,6 @@ records_in vs ver ln i (suc c) l =
         same_length : (es : List ℕ) → length es ≡ length (entry_words vs es)
         same_length [] = refl
         same_length (v ∷ es) = ap suc (same_length es)
-
--- their entries are known, where all vertices are
-known_in : (vs ver ln : List ℕ) (n i c : ℕ) (l : List ℕ) → ((v : ℕ) → v < n → index_of v vs < length vs) → Within n (points_in ver ln i c l) → Known vs ln i c l
-unfolding points_in Known
-known_in vs ver ln n i zero l h w = tt
-known_in vs ver ln n i (suc c) l h (more a w) = (λ x xl. h _ (a x xl), known_in vs ver ln n (suc i) c (drop (get_or ln i 0) l) h w)
 
 vertices_in : (ver ln : List ℕ) (i c : ℕ) (l : List ℕ) → i + c ≤ length ver → vertices (points_in ver ln i c l) ≡ take c (drop i ver)
 unfolding points_in
@@ -90,13 +73,6 @@ module _ {file : List ℕ} {net : Net} (t : TakenIn file net) where
   -- the list one byte for each point
   pub list-size : length (vertex_list (points f)) ≡ n
   list-size = list_length f order
-
-  within : Within n (points f)
-  within =
-      rw order.points_are
-      (more {p = record { vertex = first; entries = [] }} (λ x xl. absurd (omega arith))
-      (more {p = record { vertex = second f; entries = first ∷ [] }} (λ x xl. let e : x ≡ 0 = omega arith in rw e (omega (arith, net.kept.some)))
-      (within-lines f net.kept.nbrs order.rest order.lines)))
 
   module _ {ver ln ent : List ℕ} {s : ℕ} (a : AllNumbered f ver ln ent s) where
     ver_is : take n ver ≡ vs
@@ -138,10 +114,8 @@ module _ {file : List ℕ} {net : Net} (t : TakenIn file net) where
       puttable {order = o} {list} r q =
           subst (λ b. Puttable o list b ln ent s) (sym same)
           (record {
-            ent_size = a.ent_size;
             start = a.s_in_lem;
             fits = rw vs-length a.fitting;
-            known = rw vs-length (known_in vs ver ln n 0 n (drop s ent) (λ v vl. omega (arith, (order.every v vl).0, vs-length)) (subst (Within n) (sym a.all) within));
             small = λ i il. omega (arith, order.are_vertices i (omega (arith, il, vs-length)), net.kept.byte);
             order-room = omega (arith, order-room);
             list-room = omega (arith, vs-length);

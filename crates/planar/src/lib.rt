@@ -33,12 +33,12 @@ fn judge(file: &[u8]) -> Answer<Net>
 
 // Writes the order file and the list of vertices of a net that is taken, where there is room for both.
 fn put_net(net: &Net, order: &mut [u8], list: &mut [u8])
-    requires { ((file : List ℕ) × TakenIn file net.now) × (10 * net.now.n ≤ length order.old + 6) × (net.now.n ≤ length list.old) }
-    ensures { Stored order.old 0 (order_file net.now.n (points (net_in net.now))) order.new ×
+    requires { ((file : List ℕ) × TakenIn file net.now) × (10 * (net_in net.now).n ≤ length order.old + 6) × ((net_in net.now).n ≤ length list.old) }
+    ensures { Stored order.old 0 (order_file (net_in net.now).n (points (net_in net.now))) order.new ×
         Stored list.old 0 (vertex_list (points (net_in net.now))) list.new }
 {
     let points = number(net);
-    let by_point = Row::new(points.vertices, usize::from(net.n));
+    let by_point = Row::new(points.vertices, usize::from(net.n()));
     put_both(order, list, &points, &by_point);
 }
 
@@ -47,7 +47,7 @@ fn put_fitting(net: &Net, order: &mut [u8], list: &mut [u8]) -> Result<Sizes, No
     requires { (file : List ℕ) × TakenIn file net.now }
     ensures { Fills (good (import_of (net_in net.now))) order.old list.old order.new list.new result }
 {
-    let n = usize::from(net.n);
+    let n = usize::from(net.n());
     let size = 10 * n - 6;
     if order.len() < size {
         return Err(NotImported::OrderShort);

@@ -1,12 +1,12 @@
 -- Where each vertex of a row stands.
-use Prim.Native.Nat.{ℕ, ◌+◌, ◌-◌, ◌<◌, ◌≤◌}
-use Rattle.std.specs.Prelude.{◌≡◌, List, Option, Some, None, length, set, take, ltb, if◌then◌else◌}
+use Prim.Native.Nat.{ℕ, suc, ◌+◌, ◌-◌, ◌<◌, ◌≤◌}
+use Rattle.std.specs.Prelude.{◌≡◌, refl, List, [], ◌∷◌, unwrap_or, Option, Some, None, length, set, take, ltb, if◌then◌else◌}
 use Rattle.std.proofs.Math.Path.{ap}
 use Rattle.std.proofs.Common.{sym, ◌∙◌, arith, length-set, get_or-set_same, get_or-set_other, get_or-take, length-take-le, lt-ltb, le-ltb}
 use Rattle.std.proofs.Math.Decide.{ℕ_discrete, dec_lt}
 use Rattle.std.proofs.Math.ListN.{get_or}
 use Rattle.rules.specs.Basics.{index_of}
-use Rattle.rules.specs.Indices.{index_at}
+use Rattle.rules.specs.Indices.{Here, hit, miss, here, index_at}
 use Rattle.planar_order.specs.Model.{Distinct, index_is}
 
 -- pos v is one more than v's index among the first m of b, or 0
@@ -51,6 +51,22 @@ index_none b v e =
   where
     some_none : (d : ℕ) → ◌≡◌ {A = Option ℕ} (Some d) None → ⊥
     some_none d h = let z : ◌≡◌ {A = ℕ} 0 1 = cc in omega arith
+
+-- the index, or one past the last where it stands nowhere: the rules' index_of
+index_within : (v : ℕ) (b : List ℕ) → index_of v b ≤ length b
+index_within v [] = omega arith
+index_within v (x ∷ b) = go (here v x b) (index_within v b)
+  where
+    go : Here v x b → index_of v b ≤ length b → index_of v (x ∷ b) ≤ suc (length b)
+    go (hit p e) h = omega arith
+    go (miss n e) h = omega arith
+
+pub index_or : (b : List ℕ) (v : ℕ) → unwrap_or (found_index b v) (length b) ≡ index_of v b
+index_or b v =
+    elim (dec_lt (index_of v b) (length b)) [
+      | yes l ↦ rw (found_at b v l) refl
+      | no l ↦ rw (found_nowhere b v (omega (arith, l))) (omega (arith, l, index_within v b))
+    ]
 
 -- none stands yet
 pub pos_none : (b pos : List ℕ) → length pos ≡ 256 → ((v : ℕ) → get_or pos v 0 ≡ 0) → Positions b 0 pos

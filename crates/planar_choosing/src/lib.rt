@@ -26,7 +26,7 @@ fn no_chord(boundary: &Row, t: usize, u: u8) -> bool
 
 // Whether none of v's lines is a chord, where v is the boundary's t-th vertex.
 fn free(net: &Net, boundary: &Row, v: u8, t: usize) -> bool
-    requires vertex { (v < net.now.n) × (get_or boundary.now t 0 ≡ v) }
+    requires vertex { (v < (net_in net.now).n) × (get_or boundary.now t 0 ≡ v) }
     requires row { (t < length boundary.now) × (length boundary.now ≤ 255) × Distinct boundary.now }
     ensures { result ≡ free? (net_in net.now) boundary.now t }
 {
@@ -40,7 +40,7 @@ fn free(net: &Net, boundary: &Row, v: u8, t: usize) -> bool
 
 // Whether v is on the boundary, is no end of it, and has no chord.
 fn open(net: &Net, boundary: &Row, v: u8) -> bool
-    requires { v < net.now.n }
+    requires { v < (net_in net.now).n }
     ensures { result ≡ open? (net_in net.now) boundary.now v }
 {
     let count = boundary.len();
@@ -55,7 +55,7 @@ fn open(net: &Net, boundary: &Row, v: u8) -> bool
 pub fn choose(net: &Net, boundary: &Row) -> Option<usize>
     ensures { result ≡ chosen (net_in net.now) boundary.now }
 {
-    for v in 0..net.n {
+    for v in 0..net.n() {
         if open(net, boundary, v) {
             return boundary.index_of(v);
         }

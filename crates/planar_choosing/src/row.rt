@@ -39,6 +39,7 @@ impl Row {
         }
     }
 
+    // How many they are. It also says what holds of every row: they are few, and different.
     pub fn len(&self) -> usize
         ensures count { result ≡ length self.now }
         ensures few { result ≤ 255 }
@@ -47,6 +48,7 @@ impl Row {
         self.count
     }
 
+    // They themselves, in their order.
     pub fn as_slice(&self) -> &[u8]
         ensures { result.now ≡ self.now }
     {

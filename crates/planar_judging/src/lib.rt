@@ -13,8 +13,8 @@ use planar_rules::{PLACE_ROOM, VERTEX_ROOM};
 fn not_self(net: &Net) -> bool
     ensures { result ≡ not_self? (net_in net.now) }
 {
-    for i in 0..net.places {
-        if net.neighbours[i] == net.owners[i] {
+    for i in 0..net.places() {
+        if net.neighbour(i) == net.owner(i) {
             return false;
         }
     }
@@ -27,9 +27,9 @@ fn not_twice(net: &Net) -> bool
     ensures { result ≡ not_twice? (net_in net.now) }
 {
     let mut marks = [0; VERTEX_ROOM];
-    for i in 0..net.places {
-        let v = net.owners[i];
-        let u = usize::from(net.neighbours[i]);
+    for i in 0..net.places() {
+        let v = net.owner(i);
+        let u = usize::from(net.neighbour(i));
         let mark = v + 1;
         if marks[u] == mark {
             return false;
@@ -45,8 +45,8 @@ fn in_both(net: &Net) -> Option<[u16; PLACE_ROOM]>
     ensures none { IfNone result (in_both? (net_in net.now) ≡ false) }
 {
     let mut backs = [0; PLACE_ROOM];
-    for i in 0..net.places {
-        match net.place_of(net.neighbours[i], net.owners[i]) {
+    for i in 0..net.places() {
+        match net.place_of(net.neighbour(i), net.owner(i)) {
             Some(e) => backs[i] = e as u16,
             None => return None,
         }
@@ -67,7 +67,7 @@ fn faces(net: &Net, backs: &[u16; PLACE_ROOM]) -> bool
     requires { Backs (net_in net.now) backs.now }
     ensures { result ≡ faces? (net_in net.now) }
 {
-    for i in 0..net.places {
+    for i in 0..net.places() {
         let a = side_of(net, backs, i);
         let b = side_of(net, backs, a);
         let c = side_of(net, backs, b);
@@ -130,10 +130,10 @@ fn joined(net: &Net) -> bool
     ensures { result ≡ joined? (net_in net.now) }
 {
     let mut labels = own_labels();
-    for i in 0..net.places {
-        join(&mut labels, net.n, net.owners[i], net.neighbours[i]);
+    for i in 0..net.places() {
+        join(&mut labels, net.n(), net.owner(i), net.neighbour(i));
     }
-    one_label(&labels, net.n)
+    one_label(&labels, net.n())
 }
 
 // Whether no list names its own vertex or one vertex twice, and all is connected.
@@ -157,8 +157,8 @@ fn sound_faces(net: &Net) -> bool
 pub fn taken(net: &Net) -> bool
     ensures { result ≡ taken? (net_in net.now) }
 {
-    let places = net.places + 12;
-    if places != 6 * usize::from(net.n) {
+    let places = net.places() + 12;
+    if places != 6 * usize::from(net.n()) {
         return false;
     }
     sound_lists(net) && sound_faces(net)

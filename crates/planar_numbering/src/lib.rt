@@ -21,12 +21,12 @@ pub use points::Points;
 // Returns where they begin.
 fn gather_run(net: &Net, d0: usize, left: u8, entries: &mut [u8; ENTRY_ROOM], s: usize) -> usize
     requires { Gatherable (net_in net.now) left d0 s × (length entries.old ≡ 768) }
-    ensures { Gathered (gather (net_in net.now) left net.now.places d0 []) s entries.old entries.new result }
+    ensures { Gathered (gather (net_in net.now) left (net_in net.now).D d0 []) s entries.old entries.new result }
 {
     let mut at = d0;
     let mut e = s;
     loop {
-        let u = net.neighbours[at];
+        let u = net.neighbour(at);
         e -= 1;
         entries[e] = u;
         if u == left {
@@ -46,7 +46,7 @@ fn gather_entries(
     entries: &mut [u8; ENTRY_ROOM],
     s: usize,
 ) -> usize
-    requires { (v < net.now.n) × Gatherable (net_in net.now) left (place (net_in net.now) v right) s × (length entries.old ≡ 768) }
+    requires { (v < (net_in net.now).n) × Gatherable (net_in net.now) left (place (net_in net.now) v right) s × (length entries.old ≡ 768) }
     ensures { Gathered (run (net_in net.now) v left right) s entries.old entries.new result }
 {
     let d0 = net.place_of(v, right).unwrap();
@@ -102,11 +102,11 @@ fn number_top(net: &Net, points: &mut Points) -> Row
     requires { Beginning (net_in net.now) points.old }
     ensures { TopNumberedIn (net_in net.now) result points.new }
 {
-    let right = net.neighbours[0];
-    let v = net.neighbours[net.after(0)];
+    let right = net.neighbour(0);
+    let v = net.neighbour(net.after(0));
     let s = gather_entries(net, v, 0, right, &mut points.entries, ENTRY_ROOM);
     let len = ENTRY_ROOM - s;
-    let k = usize::from(net.n) - 1;
+    let k = usize::from(net.n()) - 1;
     points.vertices[k] = v;
     points.counts[k] = len as u8;
     points.from = s;
@@ -119,14 +119,14 @@ fn count_down(net: &Net, first: Row, points: &mut Points)
     ensures { CountedDownIn (net_in net.now) points.new }
 {
     let mut boundary = first;
-    for k in (2..usize::from(net.n) - 1).rev() {
+    for k in (2..usize::from(net.n()) - 1).rev() {
         boundary = number_next(net, &boundary, k, points);
     }
 }
 
 // Numbers all points.
 pub fn number(net: &Net) -> Points
-    requires { Valid (net_in net.now) × (get_or net.now.owners 0 0 ≡ 0) }
+    requires { Valid (net_in net.now) × ((net_in net.now).own 0 ≡ 0) }
     ensures { AllNumberedIn (net_in net.now) result }
 {
     let mut points = Points {
@@ -138,7 +138,7 @@ pub fn number(net: &Net) -> Points
     let first = number_top(net, &mut points);
     count_down(net, first, &mut points);
     points.vertices[0] = 0;
-    points.vertices[1] = net.neighbours[0];
+    points.vertices[1] = net.neighbour(0);
     points.counts[0] = 0;
     points.counts[1] = 1;
     points.from -= 1;

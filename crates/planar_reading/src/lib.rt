@@ -147,6 +147,36 @@ impl Net {
         })
     }
 
+    // How many vertices it has.
+    pub fn n(&self) -> u8
+        ensures { result ≡ (net_in self.now).n }
+    {
+        self.n
+    }
+
+    // How many places: each line has two.
+    pub fn places(&self) -> usize
+        ensures { result ≡ (net_in self.now).D }
+    {
+        self.places
+    }
+
+    // In whose list place d stands.
+    pub fn owner(&self, d: usize) -> u8
+        requires { d < 1536 }
+        ensures { result ≡ (net_in self.now).own d }
+    {
+        self.owners[d]
+    }
+
+    // Which vertex it names.
+    pub fn neighbour(&self, d: usize) -> u8
+        requires { d < 1536 }
+        ensures { result ≡ (net_in self.now).nbr d }
+    {
+        self.neighbours[d]
+    }
+
     // Where v's list begins.
     fn start(&self, v: u8) -> usize
         ensures { result ≡ get_or self.now.starts v 0 }
@@ -163,16 +193,16 @@ impl Net {
 
     // Whom v's list names.
     pub fn list(&self, v: u8) -> &[u8]
-        requires { v < self.now.n }
+        requires { v < (net_in self.now).n }
         ensures list { result.now ≡ list_in self.now v }
-        ensures size { length result.now ≡ get_or self.now.starts (v + 1) 0 - get_or self.now.starts v 0 }
+        ensures size { let f = net_in self.now in length result.now ≡ f.off (v + 1) - f.off v }
     {
         &self.neighbours[self.start(v)..self.end(v)]
     }
 
     // The place of u in v's list.
     pub fn place_of(&self, v: u8, u: u8) -> Option<usize>
-        requires { v < self.now.n }
+        requires { v < (net_in self.now).n }
         ensures { result ≡ found_place (net_in self.now) v u }
     {
         for d in (self.start(v)..self.end(v)).rev() {

@@ -11,7 +11,7 @@ use Rattle.words.specs.Bytes.{with_word}
 use Rattle.words.specs.Writing.{Pasted, Stored, stored_next, Ahead, ahead_all, ahead_as, ahead_word, ahead-part, ahead_none}
 use Rattle.planar_numbering.specs.Points.{Fitting}
 use Rattle.planar_rules.specs.PlanarCode.{point_of}
-use Rattle.planar_writing.specs.Words.{AllIn, Known, numbers_of, point_words, points_words}
+use Rattle.planar_writing.specs.Words.{numbers_of, point_words, points_words}
 
 -- ---- the entries of a point
 
@@ -54,17 +54,15 @@ pub record Pointing (out₀ : List ℕ) (at n : ℕ) (ln ent : List ℕ) (s : �
   pub within : i ≤ n
   pub low : from ≤ length ent
   pub fits : Fitting ln i (n - i) (drop from ent)
-  pub known : Known num ln i (n - i) (drop from ent)
   pub ahead : Ahead out₀ at (points_words num ln 0 n (drop s ent)) out place (points_words num ln i (n - i) (drop from ent))
 
-pub pointing_start : (out : List ℕ) (at n : ℕ) (ln ent : List ℕ) (s : ℕ) (num : List ℕ) → s ≤ length ent → Fitting ln 0 n (drop s ent) → Known num ln 0 n (drop s ent) → Pointing out at n ln ent s num out at s 0
-pointing_start out at n ln ent s num l f w =
+pub pointing_start : (out : List ℕ) (at n : ℕ) (ln ent : List ℕ) (s : ℕ) (num : List ℕ) → s ≤ length ent → Fitting ln 0 n (drop s ent) → Pointing out at n ln ent s num out at s 0
+pointing_start out at n ln ent s num l f =
     let e : n ≡ n - 0 = omega arith in
     record {
       within = omega arith;
       low = l;
       fits = subst (λ (c : ℕ). Fitting ln 0 c (drop s ent)) e f;
-      known = subst (λ (c : ℕ). Known num ln 0 c (drop s ent)) e w;
       ahead = ahead_as (ap (λ (c : ℕ). points_words num ln 0 c (drop s ent)) e) (ahead_all out at (points_words num ln 0 n (drop s ent)));
     }
 
@@ -77,13 +75,6 @@ module _ {out₀ : List ℕ} {at n : ℕ} {ln ent : List ℕ} {s : ℕ} {num out
   fitting : (get_or ln i 0 ≤ length (drop from ent)) × Fitting ln (suc i) (n - (i + 1)) (drop (get_or ln i 0) (drop from ent))
   unfolding Fitting
   fitting = subst (λ (c : ℕ). Fitting ln i c (drop from ent)) left_less h.fits
-
-  knowing : AllIn num (entries_at ent from (get_or ln i 0)) × Known num ln (suc i) (n - (i + 1)) (drop (get_or ln i 0) (drop from ent))
-  unfolding Known
-  knowing = subst (λ (c : ℕ). Known num ln i c (drop from ent)) left_less h.known
-
-  pub pointing_known : AllIn num (entries_at ent from (get_or ln i 0))
-  pointing_known = knowing.0
 
   pub pointing_fits : from + get_or ln i 0 ≤ length ent
   pointing_fits = omega (arith, fitting.0, length-drop from ent, h.low)
@@ -119,11 +110,8 @@ module _ {out₀ : List ℕ} {at n : ℕ} {ln ent : List ℕ} {s : ℕ} {num out
       let f : Fitting ln (i + 1) (n - (i + 1)) (drop (from + get_or ln i 0) ent) =
       subst (λ (l : List ℕ). Fitting ln (i + 1) (n - (i + 1)) l) (drop-drop (get_or ln i 0) from ent)
       (subst (λ (k : ℕ). Fitting ln k (n - (i + 1)) (drop (get_or ln i 0) (drop from ent))) a fitting.1) in
-      let known : Known num ln (i + 1) (n - (i + 1)) (drop (from + get_or ln i 0) ent) =
-      subst (λ (l : List ℕ). Known num ln (i + 1) (n - (i + 1)) l) (drop-drop (get_or ln i 0) from ent)
-      (subst (λ (k : ℕ). Known num ln k (n - (i + 1)) (drop (get_or ln i 0) (drop from ent))) a knowing.1) in
       subst (λ (c : ℕ). Pointing out₀ at n ln ent s num out' place' (from + c) (i + 1)) (sym e)
-      (record { within = omega arith; low = pointing_fits; fits = f; known = known; ahead = ahead-part (ahead_as next h.ahead) q })
+      (record { within = omega arith; low = pointing_fits; fits = f; ahead = ahead-part (ahead_as next h.ahead) q })
 
 -- all are written
 pub pointed : {out₀ : List ℕ} {at n : ℕ} {ln ent : List ℕ} {s : ℕ} {num out : List ℕ} {place from i : ℕ} → Pointing out₀ at n ln ent s num out place from i → n ≤ i →

@@ -3,28 +3,26 @@
 #![tactic(auto)]
 
 ghost use Rattle.std.specs.Prelude.{◌≡◌, map, ℕ, suc, ◌+◌, ◌*◌, ◌<◌, ◌≤◌, length, get_or, drop};
-ghost use Rattle.rules.specs.Basics.{index_of};
 ghost use Rattle.rules.specs.Records.{bytes_of};
 ghost use Rattle.words.specs.Writing.{Pasted, Stored};
 ghost use Rattle.planar_rules.specs.PlanarCode.{point_of};
 ghost use Rattle.planar_numbering.specs.Points.{Fitting};
-ghost use Rattle.planar_writing.specs.Words.{AllIn, Known, numbers_of, point_words, points_words, order_words, Puttable};
+ghost use Rattle.planar_writing.specs.Words.{numbers_of, point_words, points_words, order_words, Puttable};
 
 use planar_choosing::Row;
 use planar_numbering::Points;
 use rules::{ENTRIES_MARK, ORDER_MARK};
 
-// The point number of a vertex, where `by_point` has the vertices by point.
+// The point number of a vertex, where `by_point` has the vertices by point; one past the last for a vertex that isn't among them.
 fn number_of(by_point: &Row, v: u8) -> u16
-    requires { index_of v by_point.now < length by_point.now }
     ensures { result ≡ point_of by_point.now v }
 {
-    by_point.index_of(v).unwrap() as u16 + 1
+    by_point.index_of(v).unwrap_or(by_point.len()) as u16 + 1
 }
 
 // Writes the numbers of these vertices. Returns the place behind them.
 fn put_entries(out: &mut [u8], at: usize, entries: &[u8], by_point: &Row) -> usize
-    requires { (at + 2 * length entries.now ≤ length out.old) × AllIn by_point.now entries.now }
+    requires { at + 2 * length entries.now ≤ length out.old }
     ensures { Pasted out.old at (numbers_of by_point.now entries.now) out.new result }
 {
     let mut place = at;
@@ -37,7 +35,7 @@ fn put_entries(out: &mut [u8], at: usize, entries: &[u8], by_point: &Row) -> usi
 
 // Writes the record of a point with these entries.
 fn put_point(out: &mut [u8], at: usize, entries: &[u8], by_point: &Row) -> usize
-    requires { (length entries.now < 65536) × (at + 4 + 2 * length entries.now ≤ length out.old) × AllIn by_point.now entries.now }
+    requires { (length entries.now < 65536) × (at + 4 + 2 * length entries.now ≤ length out.old) }
     ensures { Pasted out.old at (point_words by_point.now entries.now) out.new result }
 {
     let place = write_records::put_two(out, at, ENTRIES_MARK, entries.len());
@@ -46,8 +44,7 @@ fn put_point(out: &mut [u8], at: usize, entries: &[u8], by_point: &Row) -> usize
 
 // Writes the records of all points.
 fn put_points(out: &mut [u8], at: usize, points: &Points, by_point: &Row) -> usize
-    requires entries { (length points.now.entries ≡ 768) × (points.now.from ≤ 768) × Fitting points.now.counts 0 (length by_point.now) (drop points.now.from points.now.entries) }
-    requires known { Known by_point.now points.now.counts 0 (length by_point.now) (drop points.now.from points.now.entries) }
+    requires entries { (points.now.from ≤ 768) × Fitting points.now.counts 0 (length by_point.now) (drop points.now.from points.now.entries) }
     requires room { at + 2 * length (points_words by_point.now points.now.counts 0 (length by_point.now) (drop points.now.from points.now.entries)) ≤ length out.old }
     ensures { Pasted out.old at (points_words by_point.now points.now.counts 0 (length by_point.now) (drop points.now.from points.now.entries)) out.new result }
 {
@@ -63,8 +60,7 @@ fn put_points(out: &mut [u8], at: usize, points: &Points, by_point: &Row) -> usi
 
 // Writes the order file. Returns its length.
 fn put_order(out: &mut [u8], points: &Points, by_point: &Row) -> usize
-    requires entries { (length points.now.entries ≡ 768) × (points.now.from ≤ 768) × Fitting points.now.counts 0 (length by_point.now) (drop points.now.from points.now.entries) }
-    requires known { Known by_point.now points.now.counts 0 (length by_point.now) (drop points.now.from points.now.entries) }
+    requires entries { (points.now.from ≤ 768) × Fitting points.now.counts 0 (length by_point.now) (drop points.now.from points.now.entries) }
     requires room { 2 * length (order_words by_point.now points.now.counts (drop points.now.from points.now.entries)) ≤ length out.old }
     ensures { Pasted out.old 0 (order_words by_point.now points.now.counts (drop points.now.from points.now.entries)) out.new result }
 {

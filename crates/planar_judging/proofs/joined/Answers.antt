@@ -14,11 +14,11 @@ loop-i-preserved c =
     let l = c.loop-i in
     let net = c.args.net.now in
     let k = net.kept in
-    labelled_more (net_in net) l.i (k.listed.own_in l.i (omega arith)) (k.nbrs l.i (omega arith)) l.invariant c.join.ensures
+    labelled_more (net_in net) l.i (k.listed.own_in l.i (omega arith)) (k.nbrs l.i (omega arith)) l.invariant (rw (c.n.ensures, c.owner.ensures, c.neighbour.ensures) at c.join.ensures)
 
 pub returns : goal.returns
 returns c =
     let net = c.args.net.now in
     let e : c.loop-i.i ≡ net.places = omega arith in
     let all : Labelled (net_in net) net.places c.loop-i.labels = rw e at c.loop-i.invariant in
-    c.one_label.ensures ∙ joined_is (net_in net) c.loop-i.labels (omega (arith, net.kept.some)) all
+    rw c.n-2.ensures at c.one_label.ensures ∙ joined_is (net_in net) c.loop-i.labels (omega (arith, net.kept.some)) all

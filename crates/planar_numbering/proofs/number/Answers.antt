@@ -3,4 +3,4 @@ use Rattle.planar_numbering.specs.Numbered.{all_numbered}
 use Rattle.planar_numbering.proofs.number.Goals as goal
 
 pub returns : goal.returns
-returns c = all_numbered c.count_down.ensures
+returns c = rw c.neighbour.ensures (all_numbered c.count_down.ensures)

@@ -2,7 +2,7 @@
 use Rattle.std.proofs.Common.{◌+◌, ◌-◌, ◌<◌, ◌≡◌, length, get_or, arith, subst}
 use Rattle.planar_writing.specs.Words.{point_words}
 use Rattle.words.specs.Writing.{Pasted}
-use Rattle.planar_writing.proofs.Turns.{entries_at, length-entries, pointing_fits, pointing_room, pointing_known, pointing_more, pointed}
+use Rattle.planar_writing.proofs.Turns.{entries_at, length-entries, pointing_fits, pointing_room, pointing_more, pointed}
 use Rattle.planar_writing.proofs.put_points.Goals as goal
 
 pub slice_bounds-put_point-end : goal.slice_bounds-put_point-end
@@ -16,7 +16,7 @@ put_point-place-requires c =
     let b : c.loop-i.i < length c.args.by_point.now = omega (arith, c.loop-i-test.true, c.len-i-end.ensures.count) in
     let e : c.loop-i.from + c.from.result - c.loop-i.from ≡ get_or c.args.points.now.counts c.loop-i.i 0 = omega (arith, c.from.ensures) in
     let size = length-entries c.args.points.now.entries c.loop-i.from (get_or c.args.points.now.counts c.loop-i.i 0) (pointing_fits h b) in
-    rw e (omega (arith, size), omega (arith, size, pointing_room h b c.requires.room), pointing_known h b)
+    rw e (omega (arith, size), omega (arith, size, pointing_room h b c.requires.room))
 
 pub loop-i-preserved : goal.loop-i-preserved
 loop-i-preserved c =
