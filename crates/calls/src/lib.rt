@@ -29,6 +29,7 @@ fn one_call(table: &mut Table, c: Counts, e: &[u16], answers: &mut [u16], at: us
 }
 
 // All calls on the lent table, from the drawing as opened, with their answers in the buffer; gives the numbers after them.
+// Each turn goes on by a call and not by a word, so a `for` is no plainer than this `while`.
 fn all_calls(table: &mut Table, opened: Counts, calls: &[u16], answers: &mut [u16]) -> Counts
     requires { Begun opened.style opened.n calls.now answers.old (arrays_in table.old) opened }
     ensures { Ended opened.style opened.n calls.now answers.old (arrays_in table.new) result answers.new }

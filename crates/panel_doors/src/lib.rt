@@ -24,6 +24,7 @@ use store_tables::Table;
 use tool::Tool;
 
 // Where a drawing comes from. What it answers on the way goes into `answers`; and it says which buffer of its own it can find too short.
+// `answers` stays a parameter: as a field of `Calls` the exported functions had no proof of what the buffer holds after the call.
 pub trait Source: Drop {
     ghost gives: { Style → Self → List ℕ → List ℕ → ResultOf Plan → Type 0 };
 

@@ -37,6 +37,7 @@ fn add_group(
 }
 
 // Adds the groups of all points that are left, one after another.
+// How many points there are comes from the calls, so a `for` over them is no plainer than this `while`.
 fn add_groups(
     lines: &Cursor,
     style: Style,

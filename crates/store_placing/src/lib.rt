@@ -100,6 +100,7 @@ fn either_reaches(p: Spot, port: usize, a: usize, y: usize) -> bool
 }
 
 // Step 5: the index of the inner point from which ports change to i + 1, the first that port i doesn't reach.
+// It stays a labelled loop that breaks with the index: document 01 asks for that form.
 fn change_at(p: Spot, gap: &[u16], ys: &[u16], e: &[u16]) -> usize
     requires { Small p × (length gap.now ≡ 1024) × (length ys.now ≡ 1024) × (1 < length e.now) × (length e.now ≤ 1024) × Within 1024 e.now }
     ensures { result ≡ change_from p gap.now ys.now e.now 1 (inner_count e.now) }
