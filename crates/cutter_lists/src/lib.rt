@@ -20,7 +20,10 @@ fn put_move(kinds: &mut [u8], numbers: &mut [f32], i: usize, m: Move)
     ensures pair { numbers.new ≡ sets numbers.old (2 * i) (move_numbers m) }
 {
     kinds[i] = m.kind();
-    numbers[2 * i..2 * i + 2].copy_from_slice(&m.numbers());
+    // In two stores: copy_from_slice reads the pair back as one word, which waits for both halves, and all moves take a quarter more time.
+    let pair = m.numbers();
+    numbers[2 * i] = pair[0];
+    numbers[2 * i + 1] = pair[1];
 }
 
 // Puts all moves of a line there, the first as move `from`. Returns the number of the move behind them.
