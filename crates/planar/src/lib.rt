@@ -6,7 +6,7 @@ ghost use Rattle.rules.specs.declared.Style.{Style};
 ghost use Rattle.rules.specs.Refusals.{good, refused};
 ghost use Rattle.words.specs.Writing.{Stored};
 ghost use Rattle.planar_rules.specs.PlanarCode.{net_of, points, order_file, vertex_list, Import, import_of, imported};
-ghost use Rattle.planar_reading.specs.Reads.{net_in};
+ghost use Rattle.planar_reading.specs.Reads.{net_in, Holding};
 ghost use Rattle.planar_drawn.specs.Theorem.{Drawable};
 ghost use Rattle.planar.specs.Net.{TakenIn};
 ghost use Rattle.planar.specs.Outcome.{Fills, Imports};
@@ -19,16 +19,15 @@ use planar_reading::Net;
 use planar_writing::put_both;
 use rules::{Answer, Refusal};
 
-// The net of a file, or 14, then 15.
-fn judge(file: &[u8]) -> Answer<Net>
-    ensures net { IfOk result (TakenIn file.now) }
-    ensures refusal { IfErr result (λ e. imported file.now ≡ refused e.refusal e.place) }
+// 15, where the net is not taken.
+fn judge(net: &Net) -> Answer<()>
+    ensures net { (file : List ℕ) → Holding file net.now → IfOk result (λ u. TakenIn file net.now) }
+    ensures refusal { (file : List ℕ) → Holding file net.now → IfErr result (λ e. imported file ≡ refused e.refusal e.place) }
 {
-    let net = Net::read(file)?;
-    if !taken(&net) {
+    if !taken(net) {
         return Err(Refusal::NoNet.at(0));
     }
-    Ok(net)
+    Ok(())
 }
 
 // Writes the order file and the list of vertices of a net that is taken, where there is room for both.
@@ -68,6 +67,7 @@ pub fn import(file: &[u8], order: &mut [u8], list: &mut [u8]) -> Result<Sizes, N
     ensures imports { Imports file.now order.old list.old order.new list.new result }
     ensures drawable { (τ : Style) (i : Import) → imported file.now ≡ good i → Drawable τ (net_of file.now) i.order }
 {
-    let net = judge(file)?;
+    let net = Net::read(file)?;
+    judge(&net)?;
     put_fitting(&net, order, list)
 }

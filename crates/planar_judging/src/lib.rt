@@ -147,8 +147,8 @@ fn sound_lists(net: &Net) -> bool
 fn sound_faces(net: &Net) -> bool
     ensures { result ≡ sound_faces? (net_in net.now) }
 {
-    match in_both(net) {
-        Some(backs) => faces(net, &backs),
+    match &in_both(net) {
+        Some(backs) => faces(net, backs),
         None => false,
     }
 }
