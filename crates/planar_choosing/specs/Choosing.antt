@@ -1,13 +1,12 @@
 -- Which vertex comes off next: the lowest open one.
 use Prim.Native.Nat.{ℕ, suc, ◌+◌, ◌-◌, ◌<◌, ◌≤◌}
 use Rattle.std.specs.Prelude.{◌≡◌, List, Option, Some, None, Bool, true, false, ◌&&◌, length, ltb, if◌then◌else◌}
-use Rattle.std.proofs.Math.Path.{ap}
 use Rattle.std.proofs.Common.{sym, ◌∙◌, arith, add-one, lt-ltb, le-ltb, ltb-true}
-use Rattle.std.proofs.Math.Bool.{and-false}
+use Rattle.std.proofs.Math.Bool.{and_assoc}
 use Rattle.rules.specs.Bools.{both}
 use Rattle.rules.specs.Basics.{index_of}
 use Rattle.planar_rules.specs.PlanarCode.{Flat, lowest, free?, open?, next}
-use Rattle.planar_choosing.specs.Rows.{found_index, found_at, index_some, index_none}
+use Rattle.planar_choosing.specs.Rows.{found_index, inside?, found_at}
 
 -- where the vertex stands that comes off next, if there is one
 abbrev pub chosen : Flat → List ℕ → Option ℕ
@@ -16,26 +15,10 @@ chosen f b = if ltb (next f b) f.n then Some (index_of (next f b) b) else None
 -- ---- the vertices that may come off
 
 module _ (f : Flat) (b : List ℕ) (v : ℕ) where
-  -- v stands nowhere
-  pub open_off : found_index b v ≡ None → false ≡ open? f b v
+  -- those inside without a chord
+  pub open_is : (inside? b v && free? f b (index_of v b)) ≡ open? f b v
   unfolding open?
-  open_off e = rw (le-ltb (index_of v b + 1) (length b) (omega (arith, index_none b v e))) (sym (and-false (ltb 0 (index_of v b))))
-
-  -- it stands at t
-  module _ {t : ℕ} (e : found_index b v ≡ Some t) where
-    pub open_at : open? f b v ≡ (ltb 0 t && (ltb (t + 1) (length b) && free? f b t))
-    unfolding open?
-    open_at = ap (λ t. ltb 0 t && (ltb (t + 1) (length b) && free? f b t)) (index_some b v e).0
-
-    -- it is the first, or the last, or neither
-    pub open_first : t ≤ 0 → false ≡ open? f b v
-    open_first l = sym (open_at ∙ rw (le-ltb 0 t l))
-
-    pub open_last : 0 < t → length b ≤ t + 1 → false ≡ open? f b v
-    open_last p l = sym (open_at ∙ rw (lt-ltb 0 t p, le-ltb (t + 1) (length b) l))
-
-    pub open_test : 0 < t → t + 1 < length b → free? f b t ≡ open? f b v
-    open_test p l = sym (open_at ∙ rw (lt-ltb 0 t p, lt-ltb (t + 1) (length b) l))
+  open_is = and_assoc (ltb 0 (index_of v b)) (ltb (index_of v b + 1) (length b)) (free? f b (index_of v b))
 
   -- one that may come off stands somewhere
   pub open_stands : open? f b v ≡ true → index_of v b < length b

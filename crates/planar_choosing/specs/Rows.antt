@@ -1,11 +1,13 @@
 -- Where each vertex of a row stands.
 use Prim.Native.Nat.{ℕ, suc, ◌+◌, ◌-◌, ◌<◌, ◌≤◌}
-use Rattle.std.specs.Prelude.{◌≡◌, refl, List, [], ◌∷◌, unwrap_or, Option, Some, None, length, set, take, ltb, if◌then◌else◌}
+use Rattle.std.specs.Prelude.{◌≡◌, refl, List, [], ◌∷◌, unwrap_or, Option, Some, None, Bool, true, ◌&&◌, length, set, take, ltb, if◌then◌else◌}
 use Rattle.std.proofs.Math.Path.{ap}
-use Rattle.std.proofs.Common.{sym, ◌∙◌, arith, length-set, get_or-set_same, get_or-set_other, get_or-take, length-take-le, lt-ltb, le-ltb}
+use Rattle.std.proofs.Common.{sym, ◌∙◌, arith, length-set, get_or-set_same, get_or-set_other, get_or-take, length-take-le, lt-ltb, le-ltb, ltb-true}
+use Rattle.std.proofs.Math.Bool.{and-false}
 use Rattle.std.proofs.Math.Decide.{ℕ_discrete, dec_lt}
 use Rattle.std.proofs.Math.ListN.{get_or}
 use Rattle.rules.specs.Basics.{index_of}
+use Rattle.rules.specs.Bools.{both}
 use Rattle.rules.specs.Indices.{Here, hit, miss, here, index_at}
 use Rattle.planar_order.specs.Model.{Distinct, index_is}
 
@@ -22,6 +24,10 @@ Apart b m = (x y : ℕ) → x < m → y < m → get_or b x 0 ≡ get_or b y 0 �
 -- where v stands, if it does
 abbrev pub found_index : List ℕ → ℕ → Option ℕ
 found_index b v = if ltb (index_of v b) (length b) then Some (index_of v b) else None
+
+-- it stands between the first and the last
+abbrev pub inside? : List ℕ → ℕ → Bool
+inside? b v = ltb 0 (index_of v b) && ltb (index_of v b + 1) (length b)
 
 pub found_at : (b : List ℕ) (v : ℕ) → index_of v b < length b → found_index b v ≡ Some (index_of v b)
 found_at b v l = rw (lt-ltb (index_of v b) (length b) l)
@@ -51,6 +57,10 @@ index_none b v e =
   where
     some_none : (d : ℕ) → ◌≡◌ {A = Option ℕ} (Some d) None → ⊥
     some_none d h = let z : ◌≡◌ {A = ℕ} 0 1 = cc in omega arith
+
+-- one inside is found
+pub inside_found : (b : List ℕ) (v : ℕ) → inside? b v ≡ true → found_index b v ≡ Some (index_of v b)
+inside_found b v e = found_at b v (omega (arith, ltb-true (index_of v b + 1) (length b) (both _ _ e).1))
 
 -- the index, or one past the last where it stands nowhere: the rules' index_of
 index_within : (v : ℕ) (b : List ℕ) → index_of v b ≤ length b
@@ -130,3 +140,22 @@ module _ (b pos : List ℕ) (m : ℕ) (long : m ≤ length b) (p : Positions b m
       let xl : x < length B = omega (arith, w.0, B-length) in
       let q : index_of v B ≡ x = ap (λ v. index_of v B) (sym at) ∙ index_is B row_distinct x xl in
       found_at B v (omega (arith, q, xl)) ∙ ap (λ i. Some i) q
+
+  -- v stands between the first and the last
+  pub row_inside : (v : ℕ) → (ltb 1 (get_or pos v 0) && ltb (get_or pos v 0) m) ≡ inside? B v
+  row_inside v =
+      elim (dec_lt 0 (get_or pos v 0)) [
+        | yes l ↦
+            let w = index_some B v (row_some v l) in
+            counted (get_or pos v 0) (index_of v B) m (length B) (omega (arith, l, w.0)) (sym B-length)
+        | no c ↦
+            let i = index_none B v (row_none v (omega (arith, c))) in
+            rw (le-ltb 1 (get_or pos v 0) (omega (arith, c)), le-ltb (index_of v B + 1) (length B) (omega (arith, i))) (sym (and-false (ltb 0 (index_of v B))))
+      ]
+    where
+      counted : (q i m n : ℕ) → q ≡ i + 1 → m ≡ n → (ltb 1 q && ltb q m) ≡ (ltb 0 i && ltb (i + 1) n)
+      counted q i m n e h =
+          elim (dec_lt 0 i) [
+            | yes l ↦ rw (e, h, lt-ltb 1 (i + 1) (omega (arith, l)), lt-ltb 0 i l) refl
+            | no c ↦ rw (e, le-ltb 1 (i + 1) (omega (arith, c)), le-ltb 0 i (omega (arith, c))) refl
+          ]

@@ -3,10 +3,11 @@
 
 mod row;
 
-ghost use Rattle.std.specs.Prelude.{◌≡◌, ◌<◌, ◌≤◌, length, get_or};
+ghost use Rattle.std.specs.Prelude.{◌≡◌, true, ◌<◌};
+ghost use Rattle.rules.specs.Basics.{index_of};
 ghost use Rattle.planar_rules.specs.PlanarCode.{free?, open?};
-ghost use Rattle.planar_order.specs.Model.{Distinct};
 ghost use Rattle.planar_reading.specs.Reads.{net_in};
+ghost use Rattle.planar_choosing.specs.Rows.{inside?};
 ghost use Rattle.planar_choosing.specs.Free.{no_chord?};
 ghost use Rattle.planar_choosing.specs.Choosing.{chosen};
 
@@ -24,12 +25,13 @@ fn no_chord(boundary: &Row, t: usize, u: u8) -> bool
     }
 }
 
-// Whether none of v's lines is a chord, where v is the boundary's t-th vertex.
-fn free(net: &Net, boundary: &Row, v: u8, t: usize) -> bool
-    requires vertex { (v < (net_in net.now).n) × (get_or boundary.now t 0 ≡ v) }
-    requires row { (t < length boundary.now) × (length boundary.now ≤ 255) × Distinct boundary.now }
-    ensures { result ≡ free? (net_in net.now) boundary.now t }
+// Whether none of the lines of v, a vertex of the boundary, is a chord.
+fn free(net: &Net, boundary: &Row, v: u8) -> bool
+    requires vertex { v < (net_in net.now).n }
+    requires there { inside? boundary.now v ≡ true }
+    ensures { result ≡ free? (net_in net.now) boundary.now (index_of v boundary.now) }
 {
+    let t = boundary.index_of(v).unwrap();
     for &u in net.list(v) {
         if !no_chord(boundary, t, u) {
             return false;
@@ -43,12 +45,7 @@ fn open(net: &Net, boundary: &Row, v: u8) -> bool
     requires { v < (net_in net.now).n }
     ensures { result ≡ open? (net_in net.now) boundary.now v }
 {
-    let count = boundary.len();
-    match boundary.index_of(v) {
-        Some(0) => false,
-        Some(t) => t + 1 < count && free(net, boundary, v, t),
-        None => false,
-    }
+    boundary.is_inside(v) && free(net, boundary, v)
 }
 
 // Where on the boundary the vertex stands that comes off next.

@@ -1,7 +1,7 @@
 // Different vertices in a row, with where each stands.
 ghost use Rattle.std.specs.Prelude.{◌≡◌, List, ℕ, ◌≤◌, length, take};
 ghost use Rattle.planar_order.specs.Model.{Distinct};
-ghost use Rattle.planar_choosing.specs.Rows.{Positions, Apart, found_index};
+ghost use Rattle.planar_choosing.specs.Rows.{Positions, Apart, found_index, inside?};
 
 use planar_rules::VERTEX_ROOM;
 use std::marker::Model;
@@ -55,10 +55,19 @@ impl Row {
         &self.vertices[..self.count]
     }
 
+    // Whether v stands between the first and the last.
+    pub fn is_inside(&self, v: u8) -> bool
+        ensures { result ≡ inside? self.now v }
+    {
+        let stands = usize::from(self.stands[usize::from(v)]);
+        1 < stands && stands < self.count
+    }
+
     // Where v stands.
     pub fn index_of(&self, v: u8) -> Option<usize>
         ensures index { result ≡ found_index self.now v }
         ensures few { length self.now ≤ 255 }
+        ensures distinct { Distinct self.now }
     {
         usize::from(self.stands[usize::from(v)]).checked_sub(1)
     }

@@ -1,33 +1,19 @@
--- `planar_choosing::open` meets its contract: off the boundary or first, last, or between.
-use Rattle.std.proofs.Common.{ap, sym, ◌∙◌, arith, get_or, le-ltb}
-use Rattle.rules.specs.Indices.{index_at}
+-- `planar_choosing::open` meets its contract: inside, without a chord.
+use Rattle.std.proofs.Common.{ap, sym, ◌∙◌, ◌&&◌}
+use Rattle.planar_rules.specs.PlanarCode.{free?}
+use Rattle.rules.specs.Basics.{index_of}
 use Rattle.planar_reading.specs.Reads.{net_in}
-use Rattle.planar_choosing.specs.Rows.{index_some}
-use Rattle.planar_choosing.specs.Choosing.{open_off, open_first, open_last, open_test}
+use Rattle.planar_choosing.specs.Choosing.{open_is}
 use Rattle.planar_choosing.proofs.open.Goals as goal
 
-pub returns-in-Some-eq0 : goal.returns-in-Some-eq0
-returns-in-Some-eq0 c =
-    open_first (net_in c.args.net.now) c.args.boundary.now c.args.v (sym c.index_of.ensures.index ∙ c.in-Some-eq0.is) (omega (arith, c.in-Some-eq0.field-0-test))
-
-pub free-requires : goal.free-requires
-free-requires c =
+pub returns-then-is_inside : goal.returns-then-is_inside
+returns-then-is_inside c =
+    let f = net_in c.args.net.now in
     let b = c.args.boundary.now in
-    let w = index_some b c.args.v (sym c.index_of.ensures.index ∙ c.in-Some.is) in
-    record {
-      vertex = (c.requires, ap (λ i. get_or b i 0) (sym w.0) ∙ index_at c.args.v b (omega (arith, w)));
-      row = (w.1, c.index_of.ensures.few, c.len-count.ensures.distinct);
-    }
+    c.free.ensures ∙ ap (λ a. a && free? f b (index_of c.args.v b)) (sym c.if-is_inside.true ∙ c.is_inside.ensures) ∙ open_is f b c.args.v
 
-pub returns-then-t-count : goal.returns-then-t-count
-returns-then-t-count c =
-    c.free.ensures ∙
-    open_test (net_in c.args.net.now) c.args.boundary.now c.args.v (sym c.index_of.ensures.index ∙ c.in-Some.is) (omega (arith, c.in-Some.t-test.1)) (omega (arith, c.if-t-count.true, c.len-count.ensures.count))
-
-pub returns-else-t-count : goal.returns-else-t-count
-returns-else-t-count c =
-    le-ltb _ _ c.if-t-count.false ∙
-    open_last (net_in c.args.net.now) c.args.boundary.now c.args.v (sym c.index_of.ensures.index ∙ c.in-Some.is) (omega (arith, c.in-Some.t-test.1)) (omega (arith, c.if-t-count.false, c.len-count.ensures.count))
-
-pub returns-in-None : goal.returns-in-None
-returns-in-None c = open_off (net_in c.args.net.now) c.args.boundary.now c.args.v (sym c.index_of.ensures.index ∙ c.in-None.is)
+pub returns-else-is_inside : goal.returns-else-is_inside
+returns-else-is_inside c =
+    let f = net_in c.args.net.now in
+    let b = c.args.boundary.now in
+    c.if-is_inside.false ∙ ap (λ a. a && free? f b (index_of c.args.v b)) (sym c.if-is_inside.false ∙ c.is_inside.ensures) ∙ open_is f b c.args.v
