@@ -1,6 +1,7 @@
 -- "Where the answer is an enum, there is a definition that gives this paper's number and values for each of its cases."
 use Rattle.std.specs.Prelude.{ℕ, ◌*◌, ◌≡◌, refl, List, length, ltb, if◌then◌else◌, Result as Outcome, Ok, Err, Option, Some, None}
 use Rattle.rules.specs.declared.Refusal.TheVariants.{OutputShort}
+use Rattle.rules.specs.declared.Refused.{Refused}
 use Rattle.rules.specs.declared.Place.{Place}
 use Rattle.rules.specs.Refusals.{number, Result, good, refused, Answer, answer_with, refusal_at, Told, gives, refused_with, told, told_with}
 use Rattle.rules.specs.Lookups.{Sought, cut_line, no_cut_line}
@@ -57,6 +58,18 @@ told_imported (Ok s) = gives (s.order, s.list)
 told_imported (Err NotImported.OrderShort) = refused_with (number OutputShort) 0
 told_imported (Err NotImported.ListShort) = refused_with (number OutputShort) 0
 told_imported (Err (NotImported.Refused e)) = refused_with (number e.refusal) e.place
+
+-- ---- the refusal of what was not written: a buffer that is too short is 24, at place 0
+
+abbrev pub listed_refusal : NotListed → Refused
+listed_refusal (NotListed.Refused e) = e
+listed_refusal NotListed.KindsShort = refusal_at OutputShort 0
+listed_refusal NotListed.NumbersShort = refusal_at OutputShort 0
+
+abbrev pub import_refusal : NotImported → Refused
+import_refusal (NotImported.Refused e) = e
+import_refusal NotImported.OrderShort = refusal_at OutputShort 0
+import_refusal NotImported.ListShort = refusal_at OutputShort 0
 
 -- ---- the answer for what the rules give, which tells that
 

@@ -4,8 +4,9 @@
 ghost use Rattle.std.specs.Prelude.{◌≡◌};
 ghost use Rattle.answers.specs.declared.NotListed.TheVariants as NotListed;
 ghost use Rattle.answers.specs.declared.NotImported.TheVariants as NotImported;
+ghost use Rattle.answers.specs.Told.{listed_refusal, import_refusal};
 
-use rules::{Line, Place, Refused};
+use rules::{Line, Place, Refusal, Refused};
 
 // A line as it is seen: with its bend, and where the bend lies, or a straight line.
 #[derive(Clone, Copy, Debug, PartialEq, Eq)]
@@ -30,6 +31,19 @@ impl From<Refused> for NotListed {
     }
 }
 
+// The refusal that it is: a buffer that is too short is 24, at place 0.
+impl From<NotListed> for Refused {
+    ghost from_gives = { λ why refused. refused ≡ listed_refusal why };
+
+    fn from(why: NotListed) -> Refused {
+        match why {
+            NotListed::Refused(refused) => refused,
+            NotListed::KindsShort => Refusal::OutputShort.at(0),
+            NotListed::NumbersShort => Refusal::OutputShort.at(0),
+        }
+    }
+}
+
 // An import, written into two buffers: how many bytes of the order file, and of the list of vertices.
 #[derive(Clone, Copy, Debug, PartialEq, Eq)]
 pub struct Sizes {
@@ -50,5 +64,18 @@ impl From<Refused> for NotImported {
 
     fn from(refused: Refused) -> NotImported {
         NotImported::Refused(refused)
+    }
+}
+
+// The refusal that it is, in the same manner.
+impl From<NotImported> for Refused {
+    ghost from_gives = { λ why refused. refused ≡ import_refusal why };
+
+    fn from(why: NotImported) -> Refused {
+        match why {
+            NotImported::Refused(refused) => refused,
+            NotImported::OrderShort => Refusal::OutputShort.at(0),
+            NotImported::ListShort => Refusal::OutputShort.at(0),
+        }
     }
 }

@@ -22,11 +22,10 @@ const PAGE: usize = 983104;
 // Longer than every word that is a number; a word that doesn't fit counts as an empty one, and neither is a number.
 const WORD: usize = 16;
 
-// Puts a word of the program's arguments at the start of the buffer. Returns how many bytes it has, 0 also where there is none or it doesn't fit.
-fn word<E: Env>(env: &E, number: usize, buffer: &mut [u8]) -> usize
-    ensures { result ≤ length buffer.new }
-{
-    env.arg(number, buffer).unwrap_or(0)
+// A word of the program's arguments, put at the start of the buffer: an empty one where there is none or it doesn't fit.
+fn word<'b, E: Env>(env: &E, number: usize, buffer: &'b mut [u8]) -> &'b [u8] {
+    let bytes = env.arg(number, buffer).unwrap_or(0);
+    &buffer[..bytes]
 }
 
 // The page begins with what is to be printed of the bytes read of an order file, with the tool of the program's arguments: pitch, depth and clearance. Returns how many bytes that is.
@@ -38,17 +37,14 @@ fn fill<E: Env>(style: Style, order: &[u8], page: &mut [u8], env: &E) -> usize
     let mut pitch = [0u8; WORD];
     let mut depth = [0u8; WORD];
     let mut clearance = [0u8; WORD];
-    let p = word(env, 1, &mut pitch);
-    let d = word(env, 2, &mut depth);
-    let c = word(env, 3, &mut clearance);
     let mut kinds = [0u8; KINDS];
     let mut numbers = [0.0f32; NUMBERS];
     printing_moves::moves_page(
         style,
         order,
-        &pitch[..p],
-        &depth[..d],
-        &clearance[..c],
+        word(env, 1, &mut pitch),
+        word(env, 2, &mut depth),
+        word(env, 3, &mut clearance),
         &mut kinds,
         &mut numbers,
         page,

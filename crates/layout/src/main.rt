@@ -7,7 +7,6 @@ ghost use Rattle.std.specs.Prelude.{◌<◌, ◌≤◌, length};
 use drawing::Drawing;
 use rules::Style;
 use std::io;
-use std::io::Read;
 
 // Turns the bytes into numbers, as many as both hold; gives how many.
 fn take_words(bytes: &[u8], out: &mut [u16]) -> usize
@@ -31,45 +30,32 @@ fn mix(d: Drawing, at: usize) -> u16
     links ^ points ^ lines
 }
 
-// Makes the calls `rounds` times; gives the number of points placed, or 0 if a round's drawing differs from the one before.
+// Makes the calls `rounds` times; gives the number of points placed, or none if the calls are refused or a round's drawing differs from the one before.
 // Of each array one number is compared: the compiler can't know which, so it can't leave out the work of storing them all.
-fn repeat(n: usize, rounds: usize, calls: &[u16]) -> usize {
+fn repeat(n: usize, rounds: usize, calls: &[u16]) -> Option<usize> {
     let mut answers = [0u16; 2048];
     let at = rounds % 1024;
     let mut seen = 0;
     let mut placed = 0;
     for round in 0..rounds {
-        let Ok(drawn) = calls::run(Style::OneBend, n, calls, &mut answers) else {
-            return 0;
-        };
+        let drawn = calls::run(Style::OneBend, n, calls, &mut answers).ok()?;
         let mixed = mix(drawn, at) ^ answers[at];
         if 0 < round && mixed != seen {
-            return 0;
+            return None;
         }
         seen = mixed;
         placed = drawn.counts.k;
     }
-    placed
+    Some(placed)
 }
 
-// Reads until the buffer is full, the input ends or a read fails; gives how many bytes stand at its start.
-fn read_full<R: Read>(from: &mut R, buffer: &mut [u8]) -> usize
-    ensures { result ≤ length buffer.new }
-{
-    let mut done = 0;
-    while done < buffer.len() {
-        match from.read(&mut buffer[done..]) {
-            Ok(0) | Err(_) => break,
-            Ok(more) => done += more,
-        }
-    }
-    done
-}
-
-// Reads the numbers, makes the calls and prints the line; fewer than two numbers give no line.
+// Reads the numbers, those before a read that fails, makes the calls and prints the line, 0 for none; fewer than two numbers give no line.
 fn main(rt: HostRuntime) -> io::Result<()> {
     let mut bytes = [0u8; 131072];
-    let got = read_full(&mut rt.stdin(), &mut bytes);
+    let got = match files::read_input(&mut rt.stdin(), &mut bytes) {
+        Ok(bytes) => bytes,
+        Err(failed) => failed.bytes,
+    };
     let mut numbers = [0u16; 65536];
     let count = take_words(&bytes[..got], &mut numbers);
     if count < 2 {
@@ -77,6 +63,6 @@ fn main(rt: HostRuntime) -> io::Result<()> {
     }
     let n = usize::from(numbers[0]);
     let rounds = usize::from(numbers[1]);
-    let placed = repeat(n, rounds, &numbers[2..count]);
+    let placed = repeat(n, rounds, &numbers[2..count]).unwrap_or(0);
     println!(rt; "{placed}")
 }

@@ -1,8 +1,7 @@
 -- How many lines end at a point: at least one more than its ports on a side, and at least twice the depth of its middle row.
 use Rattle.std.specs.Prelude.{ℕ, zero, suc, ◌+◌, ◌*◌, ◌-◌, ◌<◌, ◌≤◌, ◌≡◌, cond, eqb}
 use Rattle.std.proofs.Math.Path.{ap}
-use native.Mathlib.Omega.{arith}
-use Rattle.std.proofs.Common.{add-suc, add-zero, eq-eqb}
+use Rattle.std.proofs.Common.{add-suc, add-zero, eq-eqb, arith}
 use Rattle.std.proofs.Math.Decide.{dec_lt, ℕ_discrete}
 use Rattle.rules.specs.declared.Style.TheVariants.{OneBend}
 use Rattle.net.specs.Side.{Side, at}

@@ -1,6 +1,6 @@
 -- The one-bend drawing as opened: points 0, 1, 2 at (0,0), (6,0), (3,2), and no middle port.
 use Rattle.std.specs.Prelude.{ℕ, ◌<◌, ◌≤◌, ◌≡◌, refl}
-use native.Mathlib.Omega.{arith}
+use Rattle.std.proofs.Common.{arith}
 use Rattle.rules.specs.declared.Style.TheVariants.{OneBend}
 use Rattle.net.specs.Side.{Side, rt, lf}
 use Rattle.net.specs.Net.{Net, BendKind, side, middle, flat}

@@ -1,7 +1,6 @@
 -- Two lines in one role at a point: two ports on one side, two middle ports. They have only that point in common.
 use Rattle.std.specs.Prelude.{ℕ, ◌+◌, ◌-◌, ◌<◌, ◌≤◌, ◌≡◌, refl, ◌≢◌, false}
-use Rattle.std.proofs.Common.{sym, ◌∙◌, true≢false}
-use native.Mathlib.Omega.{arith}
+use Rattle.std.proofs.Common.{sym, ◌∙◌, true≢false, arith}
 use Rattle.std.proofs.Math.Decide.{dec_lt, ℕ_discrete}
 use Rattle.rules.specs.declared.Place.{Place}
 use Rattle.rules.specs.Meeting.{cross_plus, cross_minus, meet}

@@ -1,8 +1,7 @@
 -- Both drawings as opened: three points, boundary 0, 2, 1. What stands past the three is left to another net.
-use Prim.Native.Nat.{ℕ, zero, suc, ◌+◌, ◌<◌}
-use Rattle.std.specs.Prelude.{◌≡◌, ◌≢◌}
+use Rattle.std.specs.Prelude.{ℕ, zero, suc, ◌+◌, ◌<◌, ◌≡◌, ◌≢◌}
 use Rattle.std.proofs.Math.Path.{refl, fun_ext}
-use native.Mathlib.Omega.{arith}
+use Rattle.std.proofs.Common.{arith}
 use Rattle.rules.specs.declared.Style.{Style}
 use Rattle.rules.specs.declared.Style.TheVariants.{OneBend, Straight}
 use Rattle.rules.specs.Styles.{second_x, third_x, third_y, taken, inset}

@@ -1,5 +1,5 @@
 // What is asked of the drawing in a lent table that goes with an accepting answer: a move, all moves, a point, a line, a cut line; or that answer's refusal.
-// For `panel_c`: it asks that an accepting answer has its drawing.
+// For `panel_doors` and `printing_moves`: it asks that an accepting answer has its drawing.
 #![tactic(auto)]
 
 ghost use Rattle.std.specs.Prelude.{ℕ};
@@ -43,7 +43,7 @@ pub fn find<A, const N: usize, Q: Question<A, N>>(
 }
 
 // Move `number`, from 0, with this tool.
-#[derive(Clone, Copy)]
+#[derive(Clone, Copy, Debug, PartialEq)]
 pub struct MoveAsked {
     pub tool: Tool,
     pub number: usize,
@@ -61,7 +61,7 @@ impl Question<f32, 2> for MoveAsked {
 }
 
 // A point's place.
-#[derive(Clone, Copy)]
+#[derive(Clone, Copy, Debug, PartialEq, Eq)]
 pub struct PointAsked(pub usize);
 
 impl Question<u64, 2> for PointAsked {
@@ -76,7 +76,7 @@ impl Question<u64, 2> for PointAsked {
 }
 
 // A line, from 0, with its bend.
-#[derive(Clone, Copy)]
+#[derive(Clone, Copy, Debug, PartialEq, Eq)]
 pub struct LineAsked(pub usize);
 
 impl Question<u64, 7> for LineAsked {
@@ -91,7 +91,7 @@ impl Question<u64, 7> for LineAsked {
 }
 
 // The same line without its bend.
-#[derive(Clone, Copy)]
+#[derive(Clone, Copy, Debug, PartialEq, Eq)]
 pub struct EndsAsked(pub usize);
 
 impl Question<u64, 3> for EndsAsked {
@@ -105,7 +105,7 @@ impl Question<u64, 3> for EndsAsked {
 }
 
 // A cut line that ends at a point.
-#[derive(Clone, Copy)]
+#[derive(Clone, Copy, Debug, PartialEq, Eq)]
 pub struct CutAsked(pub usize);
 
 impl Question<u64, 1> for CutAsked {

@@ -40,7 +40,7 @@ pub trait Source: Drop {
 }
 
 // An order file, which has no answers.
-#[derive(Clone, Copy)]
+#[derive(Clone, Copy, Debug, PartialEq, Eq)]
 pub struct OrderFile<'a>(pub &'a [u8]);
 
 impl Source for OrderFile<'_> {
@@ -58,7 +58,7 @@ impl Source for OrderFile<'_> {
 }
 
 // A list of calls on a drawing opened for n points: every answer in two words. The answers are written also where what is asked then is refused.
-#[derive(Clone, Copy)]
+#[derive(Clone, Copy, Debug, PartialEq, Eq)]
 pub struct Calls<'a> {
     pub n: usize,
     pub calls: &'a [u16],

@@ -1,11 +1,11 @@
 -- Which vertex comes off next: the lowest open one.
-use Prim.Native.Nat.{ℕ, suc, ◌+◌, ◌-◌, ◌<◌, ◌≤◌}
-use Rattle.std.specs.Prelude.{◌≡◌, List, Option, Some, None, Bool, true, false, ◌&&◌, length, ltb, if◌then◌else◌}
-use Rattle.std.proofs.Common.{sym, ◌∙◌, arith, add-one, lt-ltb, le-ltb, ltb-true}
+use Rattle.std.specs.Prelude.{ℕ, ◌+◌, ◌-◌, ◌<◌, ◌≤◌, ◌≡◌, true, ◌&&◌, List, Option, Some, None, length, ltb, if◌then◌else◌}
+use Rattle.std.proofs.Common.{sym, ◌∙◌, arith, lt-ltb, le-ltb, ltb-true}
 use Rattle.std.proofs.Math.Bool.{and_assoc}
 use Rattle.rules.specs.Bools.{both}
-use Rattle.rules.specs.Basics.{index_of}
-use Rattle.planar_rules.specs.PlanarCode.{Flat, lowest, free?, open?, next}
+use Rattle.rules.specs.Basics.{index_of, lowest}
+use Rattle.rules.proofs.Lowest.{lowest-here, lowest-end}
+use Rattle.planar_rules.specs.PlanarCode.{Flat, free?, open?, next}
 use Rattle.planar_choosing.specs.Rows.{found_index, inside?, found_at}
 
 -- where the vertex stands that comes off next, if there is one
@@ -24,21 +24,6 @@ module _ (f : Flat) (b : List ℕ) (v : ℕ) where
   pub open_stands : open? f b v ≡ true → index_of v b < length b
   unfolding open?
   open_stands e = omega (arith, ltb-true _ _ (both (ltb (index_of v b + 1) (length b)) _ (both (ltb 0 (index_of v b)) _ e).1).0)
-
--- ---- the lowest of those from v on
-
--- it is v, it is above v, or there is none
-pub lowest-here : (p : ℕ → Bool) (n v : ℕ) → v < n → p v ≡ true → lowest p (n - v) v ≡ v
-unfolding lowest
-lowest-here p n v l e = let q : n - v ≡ suc (n - v - 1) = omega arith in rw (q, e)
-
-pub lowest_on : (p : ℕ → Bool) (n v : ℕ) → v < n → p v ≡ false → lowest p (n - v) v ≡ lowest p (n - (v + 1)) (v + 1)
-unfolding lowest
-lowest_on p n v l e = let q : n - v ≡ suc (n - (v + 1)) = omega arith in rw (q, e, add-one v)
-
-pub lowest-end : (p : ℕ → Bool) (n v : ℕ) → n ≤ v → lowest p (n - v) v ≡ v
-unfolding lowest
-lowest-end p n v l = let q : n - v ≡ 0 = omega arith in rw q
 
 -- the one that comes off next is v, or there is none
 module _ (f : Flat) (b : List ℕ) where

@@ -1,8 +1,8 @@
 -- Where each vertex of a row stands.
-use Prim.Native.Nat.{ℕ, suc, ◌+◌, ◌-◌, ◌<◌, ◌≤◌}
-use Rattle.std.specs.Prelude.{◌≡◌, refl, List, [], ◌∷◌, unwrap_or, Option, Some, None, Bool, true, ◌&&◌, length, set, take, ltb, if◌then◌else◌}
+use Rattle.std.specs.Prelude.{ℕ, suc, ◌+◌, ◌-◌, ◌<◌, ◌≤◌, ◌≡◌, refl, Bool, true, ◌&&◌, List, [], ◌∷◌, Option, Some, None, length, take, set, ltb, if◌then◌else◌, unwrap_or}
 use Rattle.std.proofs.Math.Path.{ap}
 use Rattle.std.proofs.Common.{sym, ◌∙◌, arith, length-set, get_or-set_same, get_or-set_other, get_or-take, length-take-le, lt-ltb, le-ltb, ltb-true}
+use Rattle.std.proofs.lemmas.Option.{cond_some, none-some}
 use Rattle.std.proofs.Math.Bool.{and-false}
 use Rattle.std.proofs.Math.Decide.{ℕ_discrete, dec_lt}
 use Rattle.std.proofs.Math.ListN.{get_or}
@@ -37,26 +37,14 @@ found_nowhere b v l = rw (le-ltb (index_of v b) (length b) l)
 
 -- what it says
 pub index_some : (b : List ℕ) (v : ℕ) {t : ℕ} → found_index b v ≡ Some t → (index_of v b ≡ t) × (t < length b)
-index_some b v {t} e =
-    elim (dec_lt (index_of v b) (length b)) [
-      | yes l ↦
-          let q : Some (index_of v b) ≡ Some t = sym (found_at b v l) ∙ e in
-          let z : index_of v b ≡ t = cc in (z, omega arith)
-      | no l ↦ absurd (none_some t (sym (found_nowhere b v (omega (arith, l))) ∙ e))
-    ]
-  where
-    none_some : (d : ℕ) → ◌≡◌ {A = Option ℕ} None (Some d) → ⊥
-    none_some d h = let z : ◌≡◌ {A = ℕ} 0 1 = cc in omega arith
+index_some b v e = let s = cond_some _ _ _ e in (s.1, omega (arith, ltb-true _ _ s.0, s.1))
 
 pub index_none : (b : List ℕ) (v : ℕ) → found_index b v ≡ None → length b ≤ index_of v b
 index_none b v e =
     elim (dec_lt (index_of v b) (length b)) [
-      | yes l ↦ absurd (some_none (index_of v b) (sym (found_at b v l) ∙ e))
+      | yes l ↦ absurd (none-some _ (sym e ∙ found_at b v l))
       | no l ↦ omega (arith, l)
     ]
-  where
-    some_none : (d : ℕ) → ◌≡◌ {A = Option ℕ} (Some d) None → ⊥
-    some_none d h = let z : ◌≡◌ {A = ℕ} 0 1 = cc in omega arith
 
 -- one inside is found
 pub inside_found : (b : List ℕ) (v : ℕ) → inside? b v ≡ true → found_index b v ≡ Some (index_of v b)

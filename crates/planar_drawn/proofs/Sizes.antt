@@ -1,7 +1,6 @@
 -- HOW LONG THEY ARE: a file that is taken has 7n + 4 bytes, its order file 10n - 6 and its list n. So the programs cut no such file.
 use Rattle.std.specs.Prelude.{ℕ, zero, suc, ◌+◌, ◌*◌, ◌≤◌, ◌≡◌, refl, Bool, true, false, List, [], ◌∷◌, length, take, leb, ltb}
-use Rattle.std.proofs.Common.{ap, ◌∙◌, take_all, ltb-true, ltb-false}
-use native.Mathlib.Omega.{arith}
+use Rattle.std.proofs.Common.{ap, ◌∙◌, take_all, ltb-true, ltb-false, arith}
 use Rattle.std.proofs.Math.ListN.{length-drop, get_or-eq_default}
 use Rattle.rules.specs.declared.Style.{Style}
 use Rattle.rules.specs.Bools.{both}

@@ -1,8 +1,7 @@
 -- The boundary without the vertex that comes off: its entries stand there in place of it and the two beside it.
 use Rattle.std.specs.Prelude.{ℕ, ◌+◌, ◌<◌, ◌≤◌, ◌≡◌, List, ◌++◌, length, get_or, take, drop}
-use Rattle.std.proofs.Common.{ap, sym, ◌∙◌, arith, get_or-take, length-take-le, length-append, take_at}
+use Rattle.std.proofs.Common.{ap, sym, ◌∙◌, arith, get_or-take, length-take-le, length-append, take_at, append_assoc}
 use Rattle.std.proofs.lemmas.Slice.{take-put_mid}
-use mathlib.Core.List.{append_assoc}
 use borrow.Rule.Slice.PartMut.{put_mid, post_of}
 use Rattle.planar_order.specs.Model.{Distinct}
 use Rattle.planar_choosing.specs.Rows.{Apart}

@@ -1,13 +1,10 @@
 -- The entries of a point: the neighbours round its vertex, gathered into an array from some place down.
-use Prim.Native.Nat.{ℕ, suc, ◌+◌, ◌-◌, ◌<◌, ◌≤◌}
-use Rattle.std.specs.Prelude.{◌≡◌, refl, ◌≢◌, set}
+use Rattle.std.specs.Prelude.{ℕ, suc, ◌+◌, ◌-◌, ◌<◌, ◌≤◌, ◌≡◌, refl, ◌≢◌, List, [], ◌∷◌, ◌++◌, set}
 use Rattle.std.proofs.Math.Path.{ap, sym}
-use Rattle.std.proofs.Common.{◌∙◌, arith, take-append-drop, drop_at}
-use mathlib.Core.List.{List, [], ◌∷◌, ◌++◌}
+use Rattle.std.proofs.Common.{◌∙◌, arith, take-append-drop, drop_at, eq-eqb, ne_eqb}
 use Rattle.std.proofs.Math.ListN.{length, take, drop, length-set, length-drop}
 use Rattle.std.proofs.lemmas.List.{set_split}
 use Rattle.std.proofs.Math.Seq.{drop-set-lt, length-take-le, drop-drop}
-use borrow.Author.Tests.{eq-eqb, ne_eqb}
 use Rattle.planar_rules.specs.PlanarCode.{Flat, after, gather}
 use Rattle.planar_sphere.specs.Map.{turn}
 use Rattle.planar_sphere.specs.Arc.{turn-zero, turn_suc}

@@ -1,9 +1,7 @@
 -- The next point: the vertex that comes off, its entries, and the boundary without it.
-use Prim.Native.Nat.{ℕ, suc, ◌+◌, ◌-◌, ◌<◌, ◌≤◌}
-use Rattle.std.specs.Prelude.{◌≡◌, refl, List, ◌∷◌, ◌++◌, Option, Some, IsSome, get_or, take, drop, set}
+use Rattle.std.specs.Prelude.{ℕ, suc, ◌+◌, ◌-◌, ◌<◌, ◌≤◌, ◌≡◌, refl, List, ◌∷◌, ◌++◌, Option, Some, get_or, take, drop, set, IsSome}
 use Rattle.std.proofs.Math.Path.{ap}
-use Rattle.std.proofs.Common.{subst, sym, ◌∙◌, take_at, lt-ltb}
-use native.Mathlib.Omega.{arith}
+use Rattle.std.proofs.Common.{subst, sym, ◌∙◌, take_at, lt-ltb, arith}
 use Rattle.std.proofs.Math.ListN.{length, length-set}
 use Rattle.rules.specs.Basics.{index_of}
 use Rattle.rules.specs.Indices.{index_at}

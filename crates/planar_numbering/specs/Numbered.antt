@@ -1,9 +1,7 @@
 -- All points: those counted down to point 3, then points 1 and 2.
-use Prim.Native.Nat.{ℕ, suc, ◌+◌, ◌-◌, ◌*◌, ◌<◌, ◌≤◌}
-use Rattle.std.specs.Prelude.{◌≡◌, List, [], ◌∷◌, length, get_or, drop, set}
+use Rattle.std.specs.Prelude.{ℕ, suc, ◌+◌, ◌-◌, ◌*◌, ◌<◌, ◌≤◌, ◌≡◌, List, [], ◌∷◌, length, get_or, drop, set}
 use Rattle.std.proofs.Math.Path.{ap, sym}
-use Rattle.std.proofs.Common.{◌∙◌, length-set, get_or-set_same, get_or-set_other}
-use native.Mathlib.Omega.{arith}
+use Rattle.std.proofs.Common.{◌∙◌, length-set, get_or-set_same, get_or-set_other, arith}
 use Rattle.planar_rules.specs.PlanarCode.{Flat, Point, number, top_point, points, second}
 use Rattle.planar_order.specs.Numbering.{total}
 use Rattle.planar_order.specs.Theorem.{Ordered}

@@ -1,7 +1,5 @@
 -- What holds while the points are numbered (that the numbering goes through, from point n down to point 3, is in proofs/).
-use Prim.Native.Nat.{ℕ, ◌+◌, ◌*◌, ◌<◌}
-use Rattle.std.specs.Prelude.{◌≡◌, false}
-use mathlib.Core.List.{List, [], ◌∷◌}
+use Rattle.std.specs.Prelude.{ℕ, ◌+◌, ◌*◌, ◌<◌, ◌≡◌, false, List, [], ◌∷◌}
 use Rattle.std.proofs.Math.ListN.{length, get_or}
 use Rattle.planar_rules.specs.PlanarCode.{Flat, Point, first, second, top}
 use Rattle.planar_sphere.specs.Count.{count}

@@ -1,10 +1,10 @@
 -- Laws of the searches and lists that the rules use.
 use Rattle.std.specs.Prelude.{ℕ, zero, suc, ◌+◌, ◌<◌, ◌≤◌, ◌≡◌, ◌≢◌, List, ◌∷◌, ◌++◌, Bool, true, false, length, get_or, take, drop}
-use Rattle.std.proofs.Common.{ap, sym, ◌∙◌, inl, inr, arith, length-append, length-drop, get_or-append-add, get_or-take, get_or-drop, length-take-le, eq-eqb, ne_eqb}
-use Rattle.std.proofs.Math.Decide.{ℕ_discrete}
+use Rattle.std.proofs.Common.{ap, sym, ◌∙◌, arith, length-append, length-drop, get_or-append-add, get_or-take, get_or-drop, length-take-le, eq-eqb, ne_eqb}
 use Rattle.std.proofs.Math.ListN.{get_or-append}
-use Rattle.planar_rules.specs.PlanarCode.{Flat, after, lowest, gather}
-use Rattle.planar_sphere.specs.Count.{bool, clash}
+use Rattle.rules.specs.Basics.{lowest}
+use Rattle.rules.proofs.Lowest.{is_lowest, lowest_most}
+use Rattle.planar_rules.specs.PlanarCode.{Flat, after, gather}
 use Rattle.planar_sphere.specs.Map.{turn}
 use Rattle.planar_sphere.specs.Flat.{map}
 
@@ -13,16 +13,9 @@ use Rattle.planar_sphere.specs.Flat.{map}
 pub lowest-hit :
     (p : ℕ → Bool) (k x y : ℕ) → x ≤ y → y < x + k → p y ≡ true →
     (lowest p k x ≤ y) × (p (lowest p k x) ≡ true) × ((z : ℕ) → x ≤ z → z < lowest p k x → p z ≡ false)
-unfolding lowest
-lowest-hit p zero x y a b t = absurd (omega arith)
-lowest-hit p (suc k) x y a b t =
-    elim (bool (p x)) [
-      | inl h ↦ rw h (a, h, λ z c d. absurd (omega arith))
-      | inr h ↦
-          let ne : x ≢ y = λ e. clash t (ap p (sym e) ∙ h) in
-          let w = lowest-hit p k (suc x) y (omega (arith, ne)) (omega arith) t in
-          rw h (w.0, w.1, λ z c d. elim (ℕ_discrete z x) [ yes e ↦ ap p e ∙ h | no d' ↦ w.2 z (omega (arith, d')) d ])
-    ]
+lowest-hit p k x y a b t =
+    let most = lowest_most p k x y a t in
+    let is = is_lowest p k x in (most, is.passes (omega (arith, most)), is.below)
 
 -- ---- a part of a list replaced: what stands from a up to z by run
 

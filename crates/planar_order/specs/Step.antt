@@ -1,14 +1,10 @@
 -- One step of the numbering: the rules' boundary is a shell's, the lowest free vertex is there, and without it the boundary is a shell's again.
-use Prim.Native.Nat.{ℕ, ◌+◌, ◌-◌, ◌<◌, ◌≤◌}
-use Rattle.std.specs.Prelude.{◌≡◌, refl, ◌≢◌, Bool, true, false, not, ◌&&◌, ◌||◌, length, eqb, ltb, if◌then◌else◌}
+use Rattle.std.specs.Prelude.{ℕ, ◌+◌, ◌-◌, ◌<◌, ◌≤◌, ◌≡◌, refl, ◌≢◌, Bool, true, false, not, ◌&&◌, ◌||◌, List, [], ◌∷◌, length, eqb, ltb, if◌then◌else◌}
 use Rattle.std.proofs.Math.Path.{ap}
-use Rattle.std.proofs.Common.{sym, ◌∙◌, inl, inr}
-use mathlib.Core.List.{List, [], ◌∷◌}
+use Rattle.std.proofs.Common.{sym, ◌∙◌, inl, inr, arith, eq-eqb, eqb-true, ltb-true, lt-ltb}
 use Rattle.std.proofs.Math.Bool.{or-true}
-use native.Mathlib.Omega.{arith}
 use Rattle.std.proofs.Math.Decide.{ℕ_discrete, dec_lt, dec_le}
 use Rattle.std.proofs.Math.ListN.{get_or}
-use borrow.Author.Tests.{eq-eqb, eqb-true, ltb-true, lt-ltb}
 use Rattle.rules.specs.Basics.{index_of}
 use Rattle.rules.specs.Bools.{both, either}
 use Rattle.planar_rules.specs.PlanarCode.{Flat, all, back, place, run, free?, open?, next, Point, point_at, without}

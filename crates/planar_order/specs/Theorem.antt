@@ -1,6 +1,5 @@
 -- What the rules promise of the points (that a file that passes the tests yields such an order, `always`, is in proofs/).
-use Prim.Native.Nat.{ℕ, ◌+◌, ◌*◌, ◌<◌}
-use Rattle.std.specs.Prelude.{◌≡◌, List, [], ◌∷◌, map, length, get_or}
+use Rattle.std.specs.Prelude.{ℕ, ◌+◌, ◌*◌, ◌<◌, ◌≡◌, List, [], ◌∷◌, map, length, get_or}
 use Rattle.rules.specs.Basics.{index_of}
 use Rattle.planar_rules.specs.PlanarCode.{Flat, Point, first, second, points, vertices, point_of}
 use Rattle.planar_order.specs.Model.{Stands, Distinct}

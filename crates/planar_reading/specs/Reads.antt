@@ -1,6 +1,7 @@
 -- The net of a file, in arrays: what reading it gives.
 use Rattle.std.specs.Prelude.{ℕ, zero, suc, ◌+◌, ◌-◌, ◌<◌, ◌≤◌, ◌≡◌, ◌≢◌, refl, List, [], ◌∷◌, Option, Some, None, Bool, true, false, ◌&&◌, length, get_or, take, drop, eqb, ltb, leb, if◌then◌else◌}
-use Rattle.std.proofs.Common.{ap, sym, ◌∙◌, inl, inr, arith, get_or-take, get_or-drop, add-one, eq-eqb, ne_eqb, lt-ltb, le-ltb, leb-true}
+use Rattle.std.proofs.Common.{ap, sym, ◌∙◌, inl, inr, arith, get_or-take, get_or-drop, add-one, eq-eqb, ne_eqb, lt-ltb, le-ltb, ltb-true, leb-true}
+use Rattle.std.proofs.lemmas.Option.{cond_some, none-some}
 use Rattle.std.proofs.Math.Path.{subst, fun_ext}
 use Rattle.std.proofs.Math.Decide.{ℕ_discrete, dec_lt}
 use Rattle.rules.specs.declared.Refusal.TheVariants.{BadCode, NoNet}
@@ -180,26 +181,14 @@ module _ (f : Flat) (l : Listed f) (v u : ℕ) (vn : v < f.n) where
 
 -- what it says of that place
 pub found_some : (f : Flat) (v u : ℕ) {d : ℕ} → found_place f v u ≡ Some d → (place f v u ≡ d) × (d < f.D)
-found_some f v u {d} e =
-    elim (dec_lt (place f v u) f.D) [
-      | yes l ↦
-          let q : Some (place f v u) ≡ Some d = sym (rw (lt-ltb (place f v u) f.D l)) ∙ e in
-          let z : place f v u ≡ d = cc in (z, omega arith)
-      | no l ↦ absurd (none_some d (sym (rw (le-ltb (place f v u) f.D (omega (arith, l)))) ∙ e))
-    ]
-  where
-    none_some : (d : ℕ) → ◌≡◌ {A = Option ℕ} None (Some d) → ⊥
-    none_some d h = let z : ◌≡◌ {A = ℕ} 0 1 = cc in omega arith
+found_some f v u e = let s = cond_some _ _ _ e in (s.1, omega (arith, ltb-true _ _ s.0, s.1))
+
+pub found_here : (f : Flat) (v u : ℕ) → place f v u < f.D → found_place f v u ≡ Some (place f v u)
+found_here f v u l = rw (lt-ltb (place f v u) f.D l)
 
 pub found_none : (f : Flat) (v u : ℕ) → found_place f v u ≡ None → f.D ≤ place f v u
 found_none f v u e =
     elim (dec_lt (place f v u) f.D) [
-      | yes l ↦ absurd (some_none (place f v u) (sym (rw (lt-ltb (place f v u) f.D l)) ∙ e))
+      | yes l ↦ absurd (none-some _ (sym e ∙ found_here f v u l))
       | no l ↦ omega (arith, l)
     ]
-  where
-    some_none : (d : ℕ) → ◌≡◌ {A = Option ℕ} (Some d) None → ⊥
-    some_none d h = let z : ◌≡◌ {A = ℕ} 0 1 = cc in omega arith
-
-pub found_here : (f : Flat) (v u : ℕ) → place f v u < f.D → found_place f v u ≡ Some (place f v u)
-found_here f v u l = rw (lt-ltb (place f v u) f.D l)

@@ -2,10 +2,11 @@
 use Rattle.std.specs.Prelude.{ℕ, ◌≡◌, refl, List, [], ◌∷◌}
 use Rattle.rules.specs.declared.Style.TheVariants.{OneBend}
 use Rattle.rules.specs.declared.Refusal.TheVariants.{BadCode, NoNet, OutputShort}
+use Rattle.rules.specs.Basics.{lowest}
 use Rattle.rules.specs.Refusals.{Result, good, refused, ◌>>=◌}
 use Rattle.rules.specs.Adding.{call_tests, judge, placed_new, add_read}
 use Rattle.rules.specs.OrderFile.{read_rest, read_points, read_order}
-use Rattle.planar_rules.specs.PlanarCode.{all, seek, lowest, begins?, lists?, formed?, neighbours, owners, ends, net_of, after, place, not_self?, not_twice?, in_both?, merge, labels, joined?, faces?, taken?, gather, run, free?, open?, next, point_at, without, number, points, records, order_file, Import, imported, room_for_both, order_of}
+use Rattle.planar_rules.specs.PlanarCode.{all, seek, begins?, lists?, formed?, neighbours, owners, ends, net_of, after, place, not_self?, not_twice?, in_both?, merge, labels, joined?, faces?, taken?, gather, run, free?, open?, next, point_at, without, number, points, records, order_file, Import, imported, room_for_both, order_of}
 
 -- an order file and a list of vertices
 abbrev gives : List ℕ → List ℕ → Result Import

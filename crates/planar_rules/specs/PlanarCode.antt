@@ -3,7 +3,7 @@ use Rattle.std.specs.Prelude.{ℕ, zero, suc, ◌+◌, ◌-◌, ◌*◌, Bool, t
 use Rattle.rules.specs.declared.Entry.{Entry}
 use Rattle.rules.specs.declared.Kind.TheVariants.{Plain}
 use Rattle.rules.specs.declared.Refusal.TheVariants.{BadCode, NoNet, OutputShort}
-use Rattle.rules.specs.Basics.{between, index_of}
+use Rattle.rules.specs.Basics.{between, index_of, lowest}
 use Rattle.rules.specs.Refusals.{Result, good, ◌>>◌, ◌>>=◌, refuse_if}
 use Rattle.rules.specs.Entries.{word_of}
 use Rattle.rules.specs.Records.{written, order_head, point_entries, end_shape}
@@ -19,11 +19,6 @@ all p (suc n) = p n && all p n
 unfoldable pub seek : (ℕ → Bool) → ℕ → ℕ → ℕ
 seek p z zero = z
 seek p z (suc n) = let r = seek p z n in if p n then n else r
-
--- the first of x, x + 1, .., x + k - 1 with p, or x + k
-unfoldable pub lowest : (ℕ → Bool) → ℕ → ℕ → ℕ
-lowest p zero x = x
-lowest p (suc k) x = let r = lowest p k (suc x) in if p x then x else r
 
 -- ---- the file: "the 15 characters `>>planar_code<<`, one byte n from 4 to 255, then for each vertex its neighbours in clockwise order, one byte each, ended by 0"
 

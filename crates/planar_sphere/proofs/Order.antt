@@ -1,9 +1,7 @@
 -- Shelling from the top never sticks: as long as more than two points are left, one can be taken off, and then the rest is as before.
-use Prim.Native.Nat.{ℕ, zero, suc, ◌+◌, ◌-◌, ◌<◌, ◌≤◌}
-use Rattle.std.specs.Prelude.{◌≡◌, ◌≢◌, true, false, not}
+use Rattle.std.specs.Prelude.{ℕ, zero, suc, ◌+◌, ◌-◌, ◌<◌, ◌≤◌, ◌≡◌, ◌≢◌, true, false, not}
 use Rattle.std.proofs.Math.Path.{refl}
-use Rattle.std.proofs.Common.{ap, ◌∙◌, lt-ltb, le-ltb}
-use native.Mathlib.Omega.{arith}
+use Rattle.std.proofs.Common.{ap, ◌∙◌, lt-ltb, le-ltb, arith}
 use Rattle.std.proofs.Math.Decide.{ℕ_discrete}
 use Rattle.planar_sphere.specs.Count.{count, count-put, count_none, count_all, count_not, inject}
 use Rattle.planar_sphere.specs.Map.{Map, Net, φ, turn}

@@ -1,8 +1,7 @@
 -- With a boundary of two points nothing else is left.
 use Rattle.std.specs.Prelude.{ℕ, zero, suc, ◌+◌, ◌<◌, ◌≡◌, refl, ◌⊎◌, Bool, true}
-use Rattle.std.proofs.Common.{ap, sym, ◌∙◌}
+use Rattle.std.proofs.Common.{ap, sym, ◌∙◌, arith}
 use Rattle.std.proofs.Math.Logic.{inl, inr}
-use native.Mathlib.Omega.{arith}
 use Rattle.std.proofs.Math.Decide.{ℕ_discrete}
 use Rattle.planar_sphere.specs.Count.{same_bit, bit, bool, put, put-here, put_else, put_old, put-case, count, count-put, count_all}
 use Rattle.planar_sphere.specs.Map.{Map, Net, end, turn}

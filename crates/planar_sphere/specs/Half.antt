@@ -1,9 +1,9 @@
 -- Half of the darts stand for their lines.
 use Rattle.std.specs.Prelude.{ℕ, ◌*◌, ◌<◌, ◌≡◌, true, not}
-use Rattle.std.proofs.Common.{ap, ◌∙◌, arith}
+use Rattle.std.proofs.Common.{ap, ◌∙◌, arith, eq-eqb, ne_eqb, eqb-true}
 use Rattle.std.proofs.Math.Path.{sym}
 use Rattle.std.proofs.Math.Logic.{inl, inr}
-use borrow.Author.Tests.{eq-eqb, ne_eqb, eqb-true, eqb-false, not-true}
+use Rattle.std.proofs.lemmas.Bool.{eqb-false, not-true}
 use Rattle.planar_sphere.specs.Count.{count, count_not, inject}
 use Rattle.planar_sphere.specs.Map.{Map, Net, rep, is_rep, rep_α, rep-either}
 

@@ -1,6 +1,5 @@
 -- The shells of a net, and what shelling from the top comes to (that it never sticks is in proofs/).
-use Prim.Native.Nat.{ℕ, ◌+◌, ◌-◌}
-use Rattle.std.specs.Prelude.{false, ltb, if◌then◌else◌}
+use Rattle.std.specs.Prelude.{ℕ, ◌+◌, ◌-◌, false, ltb, if◌then◌else◌}
 use Rattle.planar_sphere.specs.Count.{put}
 use Rattle.planar_sphere.specs.Map.{Map, φ, turn}
 use Rattle.planar_sphere.specs.Shell.{Shell}

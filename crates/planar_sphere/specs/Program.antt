@@ -1,6 +1,5 @@
 -- What a program keeps: which points are gone, and the boundary by its points. Points are the file's vertices, counted from 0. (The laws are in proofs/.)
-use Prim.Native.Nat.{ℕ, ◌+◌, ◌-◌, ◌<◌, ◌≤◌}
-use Rattle.std.specs.Prelude.{◌≡◌, ◌≢◌, ◌⊎◌, Bool}
+use Rattle.std.specs.Prelude.{ℕ, ◌+◌, ◌-◌, ◌<◌, ◌≤◌, ◌≡◌, ◌≢◌, ◌⊎◌, Bool}
 use Rattle.planar_rules.specs.PlanarCode.{Flat, back}
 use Rattle.planar_sphere.specs.Count.{put}
 use Rattle.planar_sphere.specs.Map.{Map, turn}

@@ -2,12 +2,11 @@
 use Rattle.std.specs.Prelude.{ℕ, ◌≤◌, ◌≡◌, refl, List, length, take, drop, Result as Outcome, Ok, Err}
 use Rattle.std.proofs.Common.{ap, sym, ◌∙◌, subst, arith, length-append, take_at, le-ltb}
 use Rattle.rules.specs.declared.Refusal.{Refusal}
-use Rattle.rules.specs.declared.Refusal.TheVariants.{OutputShort}
-use Rattle.rules.specs.declared.Refused.{Refused}
 use Rattle.rules.specs.Refusals.{Result, good, refused, refusal_at, number, ◌>>=◌}
 use Rattle.rules.specs.Output.{filled, refusal_line, printed, judged_bytes}
 use Rattle.answers.specs.declared.Sizes.{Sizes}
 use Rattle.answers.specs.declared.NotImported.{NotImported}
+use Rattle.answers.specs.Told.{import_refusal}
 use Rattle.printing_line.specs.Putting.{Printed}
 use Rattle.printing.specs.Began.{Began}
 use Rattle.planar_rules.specs.PlanarCode.{most_vertices, Import, imported, list_of}
@@ -33,12 +32,6 @@ lines_in i = vertex_lines i.list
 abbrev pub Within : Outcome Sizes NotImported → ℕ → Type 0
 Within (Ok s) list = s.list ≤ list
 Within (Err e) list = Unit {0}
-
--- the refusal that is printed where there is no import
-abbrev pub refused_for : NotImported → Refused
-refused_for (NotImported.Refused e) = e
-refused_for NotImported.OrderShort = refusal_at OutputShort 0
-refused_for NotImported.ListShort = refusal_at OutputShort 0
 
 -- both outputs of what was wanted stand at the start of their buffers, or its refusal is the answer, and the order file's buffer is as it was
 pub data Shown (order list order' list' : List ℕ) (answer : Outcome Sizes NotImported) : Result Import → Type 0 where
@@ -94,16 +87,16 @@ module _ {order list order' list' : List ℕ} {answer : Outcome Sizes NotImporte
 
   -- the line of the refusal, in a page whatever it held
   pub finished-line : (bytes : Import → List ℕ) {wanted : Result Import} {e : NotImported} {page after : List ℕ} {k : ℕ} → Shown order list order' list' answer wanted → answer ≡ Err e →
-      Printed page (refusal_line (number (refused_for e).refusal) (refused_for e).place) after k → Printed page (shown_as bytes wanted) after k
+      Printed page (refusal_line (number (import_refusal e).refusal) (import_refusal e).place) after k → Printed page (shown_as bytes wanted) after k
   finished-line bytes (both s o l) h q = absurd (omega (arith, ap case s, ap case h))
   finished-line bytes {e = e} (neither {r = f} {p = g} s o) h q = let a : e ≡ NotImported.Refused (refusal_at f g) = cc in rw a at q
 
   -- in the order file's own buffer it stands in what the buffer held
   pub finished-order-line : {wanted : Result Import} {e : NotImported} {after : List ℕ} {k : ℕ} → Shown order list order' list' answer wanted → answer ≡ Err e →
-      Printed order' (refusal_line (number (refused_for e).refusal) (refused_for e).place) after k → Printed order (shown_as order_in wanted) after k
+      Printed order' (refusal_line (number (import_refusal e).refusal) (import_refusal e).place) after k → Printed order (shown_as order_in wanted) after k
   finished-order-line (both s o l) h q = absurd (omega (arith, ap case s, ap case h))
   finished-order-line {e = e} {after} {k} (neither s o) h q =
-      finished-line order_in (neither s o) h (subst (λ (l : List ℕ). Printed l (refusal_line (number (refused_for e).refusal) (refused_for e).place) after k) o q)
+      finished-line order_in (neither s o) h (subst (λ (l : List ℕ). Printed l (refusal_line (number (import_refusal e).refusal) (import_refusal e).place) after k) o q)
 
 -- ---- THE PROGRAMS: the bytes read are those that are judged
 

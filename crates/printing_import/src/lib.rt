@@ -11,11 +11,11 @@ ghost use Rattle.printing.specs.Began.{Began};
 ghost use Rattle.planar_rules.specs.PlanarCode.{most_vertices, Import};
 ghost use Rattle.planar_rules.specs.Programs.{longest_import, import_program, vertex_line, vertex_lines, vertices_program};
 ghost use Rattle.printing_import.specs.Lines.{vertex_most};
-ghost use Rattle.printing_import.specs.Finishing.{refused_for, Within, Shown, shown_as, order_in, lines_in};
+ghost use Rattle.printing_import.specs.Finishing.{Within, Shown, shown_as, order_in, lines_in};
 
 use answers::{NotImported, Sizes};
 use printing_line::Page;
-use rules::{Refusal, Refused};
+use rules::Refused;
 
 // Puts the line of a vertex into the page.
 fn put_vertex(page: &mut Page<'_>, v: u8)
@@ -39,17 +39,6 @@ fn put_vertices(page: &mut [u8], list: &[u8]) -> usize
     lines.at
 }
 
-// The refusal that is printed where there is no import: a buffer that is too short is 24, at place 0.
-fn refused_for(why: NotImported) -> Refused
-    ensures { result ≡ refused_for why }
-{
-    match why {
-        NotImported::Refused(refused) => refused,
-        NotImported::OrderShort => Refusal::OutputShort.at(0),
-        NotImported::ListShort => Refusal::OutputShort.at(0),
-    }
-}
-
 // The page begins with the order file that was written into it, or with the line of the refusal. Returns how many bytes that is.
 fn finish_order(imported: Result<Sizes, NotImported>, page: &mut [u8]) -> usize
     requires { line_room ≤ length page.old }
@@ -57,7 +46,7 @@ fn finish_order(imported: Result<Sizes, NotImported>, page: &mut [u8]) -> usize
 {
     match imported {
         Ok(sizes) => sizes.order,
-        Err(why) => printing_line::put_refusal(page, refused_for(why)),
+        Err(why) => printing_line::put_refusal(page, Refused::from(why)),
     }
 }
 
@@ -68,7 +57,7 @@ fn finish_list(imported: Result<Sizes, NotImported>, list: &[u8], page: &mut [u8
 {
     match imported {
         Ok(sizes) => put_vertices(page, &list[..sizes.list]),
-        Err(why) => printing_line::put_refusal(page, refused_for(why)),
+        Err(why) => printing_line::put_refusal(page, Refused::from(why)),
     }
 }
 

@@ -6,21 +6,10 @@ ghost use Rattle.rules.specs.Refusals.{Result as Wanted};
 ghost use Rattle.rules.specs.Moves.{Move};
 ghost use Rattle.printing_line.specs.Putting.{Printed, line_room};
 ghost use Rattle.printing_move.specs.Lines.{move_most, move_room};
-ghost use Rattle.printing_listed.specs.Finishing.{refused_for, Within, Shown, lines_of};
+ghost use Rattle.printing_listed.specs.Finishing.{Within, Shown, lines_of};
 
 use answers::NotListed;
-use rules::{Refusal, Refused};
-
-// The refusal that is printed where no moves were listed: a buffer that is too short is 24, at place 0.
-fn refused_for(why: NotListed) -> Refused
-    ensures { result ≡ refused_for why }
-{
-    match why {
-        NotListed::Refused(refused) => refused,
-        NotListed::KindsShort => Refusal::OutputShort.at(0),
-        NotListed::NumbersShort => Refusal::OutputShort.at(0),
-    }
-}
+use rules::Refused;
 
 // The page begins with the lines of the moves, or with that of the refusal. Returns how many bytes that is.
 pub fn finish(
@@ -34,6 +23,6 @@ pub fn finish(
 {
     match listed {
         Ok(count) => printing_move::put_moves(page, kinds, numbers, count),
-        Err(why) => printing_line::put_refusal(page, refused_for(why)),
+        Err(why) => printing_line::put_refusal(page, Refused::from(why)),
     }
 }

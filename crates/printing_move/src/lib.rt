@@ -15,8 +15,7 @@ use tool::Move;
 fn eighths(x: f32) -> u64
     ensures { Eighths x result }
 {
-    let n = tool::whole_part(x * 8.0);
-    if n < 16777216 { n } else { 0 }
+    tool::whole_part(x * 8.0).min(16777215)
 }
 
 // What stands behind the whole millimetres of r eighths.

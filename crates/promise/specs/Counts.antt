@@ -1,8 +1,7 @@
 -- The numbers of a point after an accepted call: old heights and h stay, and of dl and dr only those of the run's ends grow, where lines take ports.
-use Rattle.std.specs.Prelude.{ℕ, zero, suc, ◌/◌, ◌<◌, ◌≡◌, refl, ◌≢◌, length}
+use Rattle.std.specs.Prelude.{ℕ, zero, suc, ◌/◌, ◌<◌, ◌≡◌, refl, ◌≢◌, List, [], ◌∷◌, length}
 use Rattle.std.proofs.Math.Path.{ap, sym}
 use Rattle.std.proofs.Common.{◌∙◌, arith}
-use mathlib.Core.List.{List, [], ◌∷◌}
 use Rattle.std.proofs.Math.ListN.{get_or, get_or-append}
 use Rattle.std.proofs.lemmas.List.{length-map, get_or_at}
 use Rattle.net.specs.Side.{Side, rt, lf, at, at_in}

@@ -1,9 +1,7 @@
 -- PLACES DON'T DEPEND ON KINDS, in both drawings: guide, plain or feeder, entries that name the same points get the same answers and the same drawing but for the kinds of its lines.
-use Prim.Native.Nat.{ℕ, suc, ◌/◌, ◌%◌}
-use Rattle.std.specs.Prelude.{◌≡◌, refl, Bool, false, not}
+use Rattle.std.specs.Prelude.{ℕ, suc, ◌/◌, ◌%◌, ◌≡◌, refl, Bool, false, not, List, [], ◌∷◌, ◌++◌, map}
 use Rattle.std.proofs.Math.Path.{sym, ap, ap₂}
 use Rattle.std.proofs.Common.{◌∙◌, arith}
-use mathlib.Core.List.{List, [], ◌∷◌, ◌++◌, map}
 use Rattle.rules.specs.declared.Style.{Style}
 use Rattle.rules.specs.declared.Kind.TheVariants.{Plain}
 use Rattle.rules.specs.declared.Line.{Line}

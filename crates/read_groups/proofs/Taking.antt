@@ -1,12 +1,6 @@
 -- One turn of the loop that takes a group, on lists: the line at hand is the group's, or the group ends before it.
-use Prim.Native.Nat.{ℕ, ◌+◌, ◌-◌, ◌*◌, ◌<◌, ◌≤◌}
-use mathlib.Core.Path.{◌≡◌, ap, sym, ◌∙◌, subst}
-use mathlib.Core.List.{List, [], ◌∷◌, ◌++◌, map, append-nil, append_assoc}
-use native.Mathlib.Numerals.{add-one}
-use native.Mathlib.Omega.{arith}
-use lib.ListN.{length, take, set}
-use lib.Seq.{take-suc-set}
-use borrow.Author.Tests.{eq-eqb, ne_eqb}
+use Rattle.std.specs.Prelude.{ℕ, ◌+◌, ◌-◌, ◌*◌, ◌<◌, ◌≤◌, ◌≡◌, List, [], ◌∷◌, ◌++◌, map, length, take, set}
+use Rattle.std.proofs.Common.{ap, sym, ◌∙◌, subst, append-nil, append_assoc, add-one, arith, take-suc-set, eq-eqb, ne_eqb}
 use Rattle.rules.specs.declared.Style.{Style}
 use Rattle.rules.specs.DrawingFile.{later_in, entry_in, group, behind}
 use Rattle.rules.proofs.Lengths.{lines_fit}

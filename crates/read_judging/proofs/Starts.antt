@@ -1,14 +1,7 @@
 -- Which test of points 1 to 3 gives the answer, from the file's numbers.
-use Prim.Native.Nat.{ℕ, ◌+◌, ◌-◌, ◌*◌, ◌<◌, ◌≤◌}
-use mathlib.Core.Path.{◌≡◌, ap, sym, ◌∙◌}
-use mathlib.Core.Bool.{true, false}
-use mathlib.Core.List.{List, ◌∷◌}
-use native.Mathlib.Omega.{arith}
-use lib.ListN.{length}
-use lib.Dec.{eqb}
-use borrow.Author.Tests.{eq-eqb, ne_eqb}
+use Rattle.std.proofs.Common.{ap, sym, ◌∙◌, arith, eq-eqb, ne_eqb}
 use Rattle.rules.specs.declared.Style.{Style}
-use Rattle.std.specs.Prelude.{Ok, Err}
+use Rattle.std.specs.Prelude.{ℕ, ◌+◌, ◌-◌, ◌*◌, ◌<◌, ◌≤◌, ◌≡◌, true, false, List, ◌∷◌, Ok, Err, length, eqb}
 use Rattle.rules.specs.declared.Refusal.TheVariants.{OtherStart}
 use Rattle.rules.specs.Refusals.{Answer, answer, refusal_at}
 use Rattle.rules.specs.Records.{Found, line_size}

@@ -1,10 +1,9 @@
 -- The groups of points 1 to 3 in a drawing file, by the first lines.
 use Rattle.std.specs.Prelude.{ℕ, ◌≡◌, Bool, not, List, [], ◌∷◌, if◌then◌else◌}
 use Rattle.std.proofs.Math.Path.{refl}
-use Rattle.std.proofs.Common.{◌∙◌, arith}
+use Rattle.std.proofs.Common.{◌∙◌, arith, eq-eqb, ne_eqb, eqb-true}
 use Rattle.std.proofs.Math.Bool.{true, false}
 use Rattle.std.proofs.Math.Dec.{eqb}
-use borrow.Author.Tests.{eq-eqb, ne_eqb, eqb-true}
 use Rattle.rules.specs.declared.Style.{Style}
 use Rattle.rules.specs.declared.Refusal.TheVariants.{OtherStart}
 use Rattle.rules.specs.Basics.{same}

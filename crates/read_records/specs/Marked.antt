@@ -1,10 +1,7 @@
 -- Records of one size in a file, by their offsets: what 1 and 2 refuse, and what the records hold.
-use Prim.Native.Nat.{ℕ, zero, suc, ◌+◌, ◌-◌, ◌*◌, ◌<◌, ◌≤◌}
-use Rattle.std.specs.Prelude.{◌≡◌, Bool, true, false, List, [], ◌∷◌, length, get_or, drop, ltb, Ok, Err}
+use Rattle.std.specs.Prelude.{ℕ, zero, suc, ◌+◌, ◌-◌, ◌*◌, ◌<◌, ◌≤◌, ◌≡◌, Bool, true, false, List, [], ◌∷◌, Ok, Err, length, get_or, drop, ltb}
 use Rattle.std.proofs.Math.Path.{refl, ap}
-use Rattle.std.proofs.Common.{◌∙◌, add-one, length-drop, drop-cons, drop-drop}
-use native.Mathlib.Omega.{arith}
-use borrow.Author.Tests.{lt-ltb, le-ltb, ltb-true, ltb-false}
+use Rattle.std.proofs.Common.{◌∙◌, add-one, length-drop, drop-cons, drop-drop, arith, lt-ltb, le-ltb, ltb-true, ltb-false}
 use Rattle.rules.specs.declared.Refusal.TheVariants.{FileEnds}
 use Rattle.rules.specs.declared.Refused.{Refused}
 use Rattle.rules.specs.Refusals.{Result, good, refused, answer, ◌>>◌, ◌>>=◌, refuse_if}

@@ -9,7 +9,7 @@ use words::word_at;
 const MARK_SIZE: usize = 2;
 
 // The bytes of a file, and the offset where the next record begins.
-#[derive(Clone, Copy)]
+#[derive(Clone, Copy, Debug, PartialEq, Eq)]
 pub struct Cursor<'a> {
     pub file: &'a [u8],
     pub at: usize,

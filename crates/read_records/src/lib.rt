@@ -9,7 +9,7 @@ ghost use Rattle.rules.specs.Basics.{between};
 pub use cursor::Cursor;
 
 // The entries of a point's record: how many, their offset, and the offset behind them.
-#[derive(Clone, Copy)]
+#[derive(Clone, Copy, Debug, PartialEq, Eq)]
 pub struct Entries {
     pub count: usize,
     pub from: usize,

@@ -1,12 +1,7 @@
 -- The records of points 1 to 3: what each test makes of them.
-use Prim.Native.Nat.{ℕ, ◌+◌}
-use mathlib.Core.Path.{◌≡◌, sym, ◌∙◌, subst}
-use mathlib.Core.Bool.{true, false, ◌||◌}
-use mathlib.Core.List.{List, [], ◌∷◌, map}
-use native.Mathlib.Omega.{arith}
-use Rattle.std.specs.Prelude.{Ok, Err}
-use lib.ListN.{length, drop, length-map}
-use borrow.Author.Tests.{eq-eqb, ne_eqb}
+use Rattle.std.proofs.Common.{sym, ◌∙◌, subst, arith, eq-eqb, ne_eqb}
+use Rattle.std.specs.Prelude.{ℕ, ◌+◌, ◌≡◌, true, false, ◌||◌, List, [], ◌∷◌, map, Ok, Err, length, drop}
+use Rattle.std.proofs.lemmas.List.{length-map}
 use Rattle.rules.specs.declared.Style.{Style}
 use Rattle.rules.specs.declared.Entry.{Entry}
 use Rattle.rules.specs.declared.Refusal.{Refusal}

@@ -24,7 +24,7 @@ const SCALE_MARKED: usize = SCALE_AT + 2;
 const SCALE_END: usize = SCALE_AT + NUMBER_SIZE;
 
 // The header and the scale: n, s and the offset behind them.
-#[derive(Clone, Copy)]
+#[derive(Clone, Copy, Debug, PartialEq, Eq)]
 pub struct Head {
     pub n: usize,
     pub s: usize,
@@ -32,7 +32,7 @@ pub struct Head {
 }
 
 // The records of points 1 to 3: the entries of lines 1-2, 3-1 and 3-2, and the offset behind them.
-#[derive(Clone, Copy)]
+#[derive(Clone, Copy, Debug, PartialEq, Eq)]
 pub struct Start {
     pub a: u16,
     pub b: u16,

@@ -1,6 +1,6 @@
 -- "Adding a point", with the order of tests that "Refused because of the state" fixes.
-use Rattle.std.specs.Prelude.{ℕ, suc, ◌+◌, ◌-◌, ◌*◌, ◌/◌, Bool, true, not, ◌&&◌, ◌||◌, length, take, drop, leb, ltb, eqb, if◌then◌else◌}
-use mathlib.Core.List.{List, [], ◌∷◌, ◌++◌, tail, map}
+use Rattle.std.specs.Prelude.{ℕ, suc, ◌+◌, ◌-◌, ◌*◌, ◌/◌, Bool, true, not, ◌&&◌, ◌||◌, List, [], ◌∷◌, ◌++◌, map, length, take, drop, eqb, ltb, leb, if◌then◌else◌}
+use mathlib.Core.List.{tail}
 use Rattle.rules.specs.declared.Line.{Line}
 use Rattle.rules.specs.declared.Entry.{Entry}
 use Rattle.rules.specs.declared.Reading.{Reading}

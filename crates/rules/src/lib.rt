@@ -176,6 +176,7 @@ pub struct Entry {
 }
 
 // The reading of an entry's 16-bit number: an entry of one of the three kinds, or a point marked both guide and feeder.
+// A Result would be no plainer: reading is never refused, and a number marked both names a point too, as `point_read` in specs/Entries says; only the tests refuse it.
 #[derive(Clone, Copy, Debug, PartialEq, Eq)]
 pub enum Reading {
     Given(Entry),

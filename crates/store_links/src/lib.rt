@@ -24,7 +24,7 @@ pub const MIDDLE_PORT: u16 = 12288;
 pub const NO_PORT: u16 = 0;
 
 // What stands beside the arrays: which of the two drawings it is, n and s as opened, k points, m of them on the boundary, and the lines so far.
-#[derive(Clone, Copy)]
+#[derive(Clone, Copy, Debug, PartialEq, Eq)]
 pub struct Counts {
     pub style: Style,
     pub n: usize,
@@ -36,7 +36,7 @@ pub struct Counts {
 
 // Where the new point goes, counted from wl: dx to the right of it, at height y, with the middle row h below it.
 // The inner points of the run move by s1; wr then lies rest to the right of the new point.
-#[derive(Clone, Copy)]
+#[derive(Clone, Copy, Debug, PartialEq, Eq)]
 pub struct Spot {
     pub dx: usize,
     pub y: usize,

@@ -7,11 +7,6 @@ use Rattle.std.specs.Float.{nan, inf, fin, binary32}
 use Rattle.std.specs.Float.Ieee.{up, down, eq, of_int, to_unsigned}
 use Rattle.std.specs.Float.Ieee.Fits.{down_pos, and_l, and_r}
 use Rattle.std.specs.Float.Ieee.Exact.{HasValue}
-use native.Mathlib.Nat.{eq_of_mul-eq-mul_right}
-use mathlib.Core.Bool.{beq, and-true, and-false}
-use lib.Ieee.{Float, nan, inf, fin, binary32, up, down, eq, of_int, to_unsigned}
-use lib.Ieee.Fits.{down_pos, and_l, and_r}
-use lib.Ieee.Exact.{HasValue}
 use Rattle.rules.specs.Basics.{between}
 use Rattle.tool.specs.declared.Tool.{Tool}
 use Rattle.tool.specs.Checking.{whole_number, number_in, WholePart, checked_of}

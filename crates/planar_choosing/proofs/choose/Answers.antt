@@ -1,8 +1,9 @@
 -- `planar_choosing::choose` meets its contract: no vertex below v may come off.
 use Rattle.std.proofs.Common.{sym, ◌∙◌, arith}
+use Rattle.rules.proofs.Lowest.{lowest_on}
 use Rattle.planar_rules.specs.PlanarCode.{open?}
 use Rattle.planar_reading.specs.Reads.{net_in}
-use Rattle.planar_choosing.specs.Choosing.{lowest_on, chosen_is, chosen_none}
+use Rattle.planar_choosing.specs.Choosing.{chosen_is, chosen_none}
 use Rattle.planar_choosing.proofs.choose.Goals as goal
 
 pub returns-then-open : goal.returns-then-open

@@ -1,6 +1,7 @@
 -- `planar_choosing::choose` meets its contract: no vertex below v may come off.
 use Rattle.std.specs.Prelude.{◌-◌, ◌≡◌}
-use Rattle.planar_rules.specs.PlanarCode.{lowest, open?}
+use Rattle.rules.specs.Basics.{lowest}
+use Rattle.planar_rules.specs.PlanarCode.{open?}
 use Rattle.planar_reading.specs.Reads.{net_in}
 use Rattle.planar_choosing.proofs.choose.Given as goal
 

@@ -6,4 +6,4 @@ pub returns-in-Ok : goal.returns-in-Ok
 returns-in-Ok c wanted before list list' s = finished-order s c.in-Ok.is
 
 pub returns-in-Err : goal.returns-in-Err
-returns-in-Err c wanted before list list' s = finished-order-line s c.in-Err.is (rw (← c.refused_for.ensures) c.put_refusal.ensures)
+returns-in-Err c wanted before list list' s = finished-order-line s c.in-Err.is (rw (← c.from.ensures) c.put_refusal.ensures)

@@ -6,4 +6,4 @@ pub returns-in-Ok : goal.returns-in-Ok
 returns-in-Ok c wanted shown = finished-moves wanted shown c.in-Ok.is c.put_moves.ensures
 
 pub returns-in-Err : goal.returns-in-Err
-returns-in-Err c wanted shown = finished-line wanted shown c.in-Err.is (rw (← c.refused_for.ensures) c.put_refusal.ensures)
+returns-in-Err c wanted shown = finished-line wanted shown c.in-Err.is (rw (← c.from.ensures) c.put_refusal.ensures)

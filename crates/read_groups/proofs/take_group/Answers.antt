@@ -1,6 +1,5 @@
 -- `read_groups::take_group` meets its contract. The loop's invariant: the first i lines are the group's, and stand in e.
-use Rattle.std.proofs.Common.{arith}
-use borrow.Author.Rules.{rules}
+use Rattle.std.proofs.Common.{arith, rules}
 use Rattle.read_groups.proofs.Taking.{taken_all, taken_some, taking_more}
 use Rattle.read_groups.proofs.take_group.Goals as goal
 

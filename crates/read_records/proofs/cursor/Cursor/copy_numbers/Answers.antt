@@ -1,6 +1,5 @@
 -- `read_records::Cursor::copy_numbers` meets its contract: after i turns the first i numbers stand at the front of e.
-use Rattle.std.proofs.Common.{arith}
-use borrow.Author.Rules.{rules}
+use Rattle.std.proofs.Common.{arith, rules}
 use Rattle.read_records.specs.Cursors.{copied}
 use Rattle.read_records.proofs.cursor.Cursor.copy_numbers.Goals as goal
 

@@ -1,6 +1,5 @@
 -- `read_records::Cursor::records` meets its contract. The loop's invariant: the first i records are there.
-use Rattle.std.proofs.Common.{◌≡◌, Err, ap, sym, ◌∙◌, arith}
-use borrow.Author.Rules.{rules}
+use Rattle.std.proofs.Common.{◌≡◌, Err, ap, sym, ◌∙◌, arith, rules}
 use Rattle.read_records.proofs.Turns.{passed_none, stops_unmarked, stops_short, passed_more, passed_all}
 use Rattle.read_records.proofs.cursor.Cursor.records.Goals as goal
 
