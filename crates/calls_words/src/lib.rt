@@ -28,7 +28,7 @@ pub fn count_calls(calls: &[u16]) -> usize
     found
 }
 
-// An answer's two words: its number, and its place.
+// An answer's two words: its number, and its place. One store at an index, which gives no place back: a struct of both would have one method, and `calls` one use of it.
 pub fn put_answer(out: &mut [u16], at: usize, a: Answer<()>)
     requires { (at + 1 < length out.old) × (place_in a < 65536) }
     ensures { out.new ≡ with_answer out.old at a }

@@ -19,7 +19,7 @@ pub fn word_at(s: &[u8], at: usize) -> u16
     u16::from_be_bytes([s[at], s[at + 1]])
 }
 
-// Writes a number's two bytes at `at`.
+// Writes a number's two bytes at `at`: one store, as `word_at` is one read. A place that moves on from number to number is that of a page, in crate `pages`.
 pub fn put_word(out: &mut [u8], at: usize, v: u16)
     requires { at + 1 < length out.old }
     ensures { out.new ≡ with_word out.old at v }
