@@ -1,10 +1,11 @@
-// The one lent table that keeps a drawing: an array with a word for each point, seven times, and one with a word for each line, three times.
+// A drawing as the program keeps it: its numbers, and one table with an array of a word for each point, seven times, and one of a word for each line, three times.
 #![tactic(auto)]
 
 ghost use Rattle.std.specs.Prelude.{◌≡◌};
-ghost use Rattle.store_tables.specs.Tables.{zeros};
+ghost use Rattle.store_tables.specs.Tables.{zeros, blank};
 
-use rules::MOST_POINTS;
+use rules::{MOST_POINTS, Style};
+use store_links::Counts;
 
 // Room for so many points, and so many lines.
 pub const POINTS: usize = MOST_POINTS;
@@ -42,6 +43,32 @@ impl Table {
             words: [0; LINES],
             later: [0; LINES],
             bends: [0; LINES],
+        }
+    }
+}
+
+// A drawing: boundary links and gaps in one table. It is lent, so that no call has two on its stack (fixed memory).
+#[derive(Clone, Copy)]
+pub struct Drawing {
+    pub counts: Counts,
+    pub table: Table,
+}
+
+impl Drawing {
+    // No drawing yet: every number is 0, no points and no lines.
+    pub fn blank() -> Drawing
+        ensures { result ≡ blank }
+    {
+        Drawing {
+            counts: Counts {
+                style: Style::OneBend,
+                n: 0,
+                s: 0,
+                k: 0,
+                m: 0,
+                lines: 0,
+            },
+            table: Table::zeros(),
         }
     }
 }
