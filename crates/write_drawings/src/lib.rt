@@ -3,7 +3,7 @@
 #![tactic(auto)]
 
 ghost use Rattle.std.specs.Prelude.{◌≡◌, ◌*◌, ◌<◌};
-ghost use Rattle.rules.specs.Points.{Drawing};
+ghost use Rattle.rules.specs.Points.{Drawing as Plan};
 ghost use Rattle.rules.specs.Refusals.{good};
 ghost use Rattle.rules.specs.DrawingFile.{highest, drawing_bytes};
 ghost use Rattle.rules.specs.Output.{filled};
@@ -15,9 +15,8 @@ ghost use Rattle.write_drawings.specs.Finished.{Finished, Writable, PointsReady,
 use pages::Page;
 use rules::{LINE_MARK, PLACE_MARK, Style};
 use store_lines::line_in;
-use store_links::Counts;
-use store_settling::bend_of;
-use store_tables::{POINTS, Table};
+use store_settling::{View, bend_of};
+use store_tables::POINTS;
 use styles::drawing_mark;
 use words::last_field;
 use write_records::put_end;
@@ -52,17 +51,17 @@ fn write_points(page: &mut Page<'_>, x: &[u16; POINTS], ys: &[u16], s: usize, k:
 }
 
 // Puts the record of line e there, from what the table holds of it.
-fn write_line(page: &mut Page<'_>, x: &[u16; POINTS], table: &Table, c: Counts, e: usize)
-    requires { LineReady c.style x.now (arrays_in table.now) c.s e page.old.at page.old.bytes.now }
-    ensures { Grown page.old (line_bytes c.style c.s x.now (arrays_in table.now) e) page.new }
+fn write_line(page: &mut Page<'_>, view: &View, e: usize)
+    requires { let d = view.now.drawing.now in LineReady d.counts.style view.now.x.now (arrays_in d.table) d.counts.s e page.old.at page.old.bytes.now }
+    ensures { let d = view.now.drawing.now in Grown page.old (line_bytes d.counts.style d.counts.s view.now.x.now (arrays_in d.table) e) page.new }
 {
-    let l = line_in(table, e);
+    let c = view.drawing.counts;
+    let l = line_in(&view.drawing.table, e);
     let field = last_field(l.kind);
     match c.style {
         Style::OneBend => {
             let bend = bend_of(
-                x,
-                table,
+                view,
                 usize::from(l.later),
                 usize::from(l.earlier),
                 l.bend,
@@ -76,27 +75,28 @@ fn write_line(page: &mut Page<'_>, x: &[u16; POINTS], table: &Table, c: Counts, 
 }
 
 // Puts the records of all lines there.
-fn write_lines(page: &mut Page<'_>, x: &[u16; POINTS], table: &Table, c: Counts)
-    requires { LinesReady c.style x.now (arrays_in table.now) c.s c.lines page.old.at page.old.bytes.now }
-    ensures { Grown page.old (several (line_bytes c.style c.s x.now (arrays_in table.now)) c.lines) page.new }
+fn write_lines(page: &mut Page<'_>, view: &View)
+    requires { let d = view.now.drawing.now in LinesReady d.counts.style view.now.x.now (arrays_in d.table) d.counts.s d.counts.lines page.old.at page.old.bytes.now }
+    ensures { let d = view.now.drawing.now in Grown page.old (several (line_bytes d.counts.style d.counts.s view.now.x.now (arrays_in d.table)) d.counts.lines) page.new }
 {
-    for e in 0..c.lines {
-        write_line(page, x, table, c, e);
+    for e in 0..view.drawing.counts.lines {
+        write_line(page, view, e);
     }
 }
 
-// The drawing file of the finished drawing that the table holds, whose x are settled: into the start of the buffer.
-pub fn write_drawing(out: &mut [u8], x: &[u16; POINTS], table: &Table, c: Counts)
-    requires { Writable x.now (arrays_in table.now) c out.old }
-    ensures { (d : Drawing) → Finished d x.now (arrays_in table.now) c →
-        out.new ≡ filled out.old (good (drawing_bytes d)) }
+// The drawing file of the finished drawing, whose x are settled: into the start of the buffer.
+pub fn write_drawing(out: &mut [u8], view: &View)
+    requires { let d = view.now.drawing.now in Writable view.now.x.now (arrays_in d.table) d.counts out.old }
+    ensures { let d = view.now.drawing.now in (q : Plan) → Finished q view.now.x.now (arrays_in d.table) d.counts →
+        out.new ≡ filled out.old (good (drawing_bytes q)) }
 {
-    let width = scaled(c.s, x[1]);
-    let height = scaled(c.s, largest(&table.ys[..c.k]));
+    let c = view.drawing.counts;
+    let width = scaled(c.s, view.x[1]);
+    let height = scaled(c.s, largest(&view.drawing.table.ys[..c.k]));
     let header = [drawing_mark(c.style), c.n as u16, c.s as u16, width, height];
     let mut page = Page::new(out);
     page.words(&header);
-    write_points(&mut page, x, &table.ys, c.s, c.k);
-    write_lines(&mut page, x, table, c);
+    write_points(&mut page, view.x, &view.drawing.table.ys, c.s, c.k);
+    write_lines(&mut page, view);
     put_end(&mut page);
 }

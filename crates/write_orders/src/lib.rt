@@ -4,7 +4,7 @@
 
 ghost use Rattle.std.specs.Prelude.{◌≡◌, ◌∷◌, map, eqb, ◌+◌, ◌*◌, ◌<◌, ◌≤◌, length};
 ghost use Rattle.std.specs.List.{prefix_len};
-ghost use Rattle.rules.specs.Points.{Drawing};
+ghost use Rattle.rules.specs.Points.{Drawing as Plan};
 ghost use Rattle.rules.specs.OrderFile.{write_order, longest_order};
 ghost use Rattle.rules.specs.Records.{bytes_of, entries_mark};
 ghost use Rattle.store_links.specs.Arrays.{Stores};
@@ -16,7 +16,7 @@ ghost use Rattle.write_orders.specs.Writing.{again, points_words, head_words, Or
 use pages::Page;
 use rules::{ENTRIES_MARK, NUMBER_SIZE, ORDER_MARK, SCALE_MARK};
 use store_links::Counts;
-use store_tables::Table;
+use store_tables::Drawing;
 use write_records::{put_end, put_two};
 
 // An entry, put together again from its parts.
@@ -68,14 +68,15 @@ fn put_head(page: &mut Page<'_>, n: usize, s: usize)
     }
 }
 
-// Writes the order file of the finished drawing that the table holds. Returns the number of bytes.
-pub fn write_order(out: &mut [u8], table: &Table, c: Counts) -> usize
-    requires { OrderWritable out.old (arrays_in table.now) c }
-    ensures { (d : Drawing) → Whole d → Stores d (arrays_in table.now) c → OrderWritten d out.old out.new result }
+// Writes the order file of the finished drawing. Returns the number of bytes.
+pub fn write_order(out: &mut [u8], d: &Drawing) -> usize
+    requires { OrderWritable out.old (arrays_in d.now.table) d.now.counts }
+    ensures { (q : Plan) → Whole q → Stores q (arrays_in d.now.table) d.now.counts → OrderWritten q out.old out.new result }
 {
+    let c = d.counts;
     let mut page = Page::new(out);
     put_head(&mut page, c.n, c.s);
-    put_points(&mut page, &table.words, &table.later, c.n, c.lines);
+    put_points(&mut page, &d.table.words, &d.table.later, c.n, c.lines);
     put_end(&mut page);
     page.at
 }
@@ -83,7 +84,7 @@ pub fn write_order(out: &mut [u8], table: &Table, c: Counts) -> usize
 // How many bytes the order file of a finished drawing with these numbers has.
 pub fn order_length(c: Counts) -> usize
     requires { (3 ≤ c.n) × (c.n ≤ 1024) }
-    ensures exact { (d : Drawing) → Whole d → c.n ≡ d.n → c.s ≡ d.s → result ≡ length (write_order d) }
+    ensures exact { (d : Plan) → Whole d → c.n ≡ d.n → c.s ≡ d.s → result ≡ length (write_order d) }
     ensures within { result ≤ longest_order }
 {
     let plain = 10 * c.n - 6;

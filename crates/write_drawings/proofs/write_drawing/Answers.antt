@@ -11,7 +11,7 @@ pub scaled-width-requires : goal.scaled-width-requires
 scaled-width-requires c = (ready c.requires).width
 
 pub slice_bounds-largest-end : goal.slice_bounds-largest-end
-slice_bounds-largest-end c = sym (length-take-le c.args.c.k _ (omega (arith, (ready c.requires).few)))
+slice_bounds-largest-end c = sym (length-take-le c.args.view.now.drawing.now.counts.k _ (omega (arith, (ready c.requires).few)))
 
 pub scaled-height-requires : goal.scaled-height-requires
 scaled-height-requires c = rw c.largest.ensures (ready c.requires).height
@@ -33,19 +33,19 @@ pub write_lines-requires : goal.write_lines-requires
 write_lines-requires c =
     let a = c.args in
     let points = c.write_points.ensures in
-    lines-ready c.requires.finished _ _ (omega (arith, c.new-page.ensures.at, ap length c.new-page.ensures.bytes, c.words.ensures.at, c.words.ensures.size, points.size, points_end a.c.s a.x.now a.table.now.ys a.c.k points, (ready c.requires).room))
+    lines-ready c.requires.finished _ _ (omega (arith, c.new-page.ensures.at, ap length c.new-page.ensures.bytes, c.words.ensures.at, c.words.ensures.size, points.size, points_end a.view.now.drawing.now.counts.s a.view.now.x.now a.view.now.drawing.now.table.ys a.view.now.drawing.now.counts.k points, (ready c.requires).room))
 
 pub put_end-requires : goal.put_end-requires
 put_end-requires c =
     let a = c.args in
     let points = c.write_points.ensures in
     let lines = c.write_lines.ensures in
-    omega (arith, c.new-page.ensures.at, ap length c.new-page.ensures.bytes, c.words.ensures.at, c.words.ensures.size, points.size, points_end a.c.s a.x.now a.table.now.ys a.c.k points, lines.size, lines_end a.c.style a.c.s a.x.now (arrays_in a.table.now) a.c.lines lines, (ready c.requires).room)
+    omega (arith, c.new-page.ensures.at, ap length c.new-page.ensures.bytes, c.words.ensures.at, c.words.ensures.size, points.size, points_end a.view.now.drawing.now.counts.s a.view.now.x.now a.view.now.drawing.now.table.ys a.view.now.drawing.now.counts.k points, lines.size, lines_end a.view.now.drawing.now.counts.style a.view.now.drawing.now.counts.s a.view.now.x.now (arrays_in a.view.now.drawing.now.table) a.view.now.drawing.now.counts.lines lines, (ready c.requires).room)
 
 pub returns : goal.returns
 returns c = λ d f.
     let a = c.args in
     let all =
-    file-put a.x.now (arrays_in a.table.now) a.c c.drawing_mark.ensures c.scaled-width.ensures c.largest.ensures c.scaled-height.ensures
+    file-put a.view.now.x.now (arrays_in a.view.now.drawing.now.table) a.view.now.drawing.now.counts c.drawing_mark.ensures c.scaled-width.ensures c.largest.ensures c.scaled-height.ensures
     c.words.ensures c.write_points.ensures c.write_lines.ensures c.put_end.ensures in
     page_filled c.new-page.ensures.at c.new-page.ensures.bytes (rw (file_is f) at all) (search rules)

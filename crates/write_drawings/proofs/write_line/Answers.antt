@@ -6,10 +6,10 @@ use Rattle.write_drawings.proofs.write_line.Goals as goal
 pub returns-in-OneBend : goal.returns-in-OneBend
 returns-in-OneBend c =
     let a = c.args in
-    line-put a.x.now (arrays_in a.table.now) a.c.s a.e c.in-OneBend.is c.line_in-l.ensures (rw (c.from.ensures, c.from-in-OneBend.ensures) at c.bend_of-bend.ensures) c.scaled-bend_x.ensures c.scaled-bend_y.ensures
+    line-put a.view.now.x.now (arrays_in a.view.now.drawing.now.table) a.view.now.drawing.now.counts.s a.e c.in-OneBend.is c.line_in-l.ensures (rw (c.from.ensures, c.from-in-OneBend.ensures) at c.bend_of-bend.ensures) c.scaled-bend_x.ensures c.scaled-bend_y.ensures
     c.last_field-field.ensures c.words.ensures
 
 pub returns-in-Straight : goal.returns-in-Straight
 returns-in-Straight c =
     let a = c.args in
-    straight-put a.x.now (arrays_in a.table.now) a.c.s a.e c.in-Straight.is c.line_in-l.ensures c.last_field-field.ensures c.words-in-Straight.ensures
+    straight-put a.view.now.x.now (arrays_in a.view.now.drawing.now.table) a.view.now.drawing.now.counts.s a.e c.in-Straight.is c.line_in-l.ensures c.last_field-field.ensures c.words-in-Straight.ensures

@@ -14,11 +14,11 @@ write_line-requires c =
     let a = c.args in
     let e = c.loop-e.e in
     let before = c.loop-e.invariant in
-    let up : line_size a.c.style * (e + 1) ≤ line_size a.c.style * a.c.lines = mul-le-mul (omega arith) (omega arith) in
+    let up : line_size a.view.now.drawing.now.counts.style * (e + 1) ≤ line_size a.view.now.drawing.now.counts.style * a.view.now.drawing.now.counts.lines = mul-le-mul (omega arith) (omega arith) in
     record {
       line = omega (arith, c.requires.few);
       fits = c.requires.fits e (omega arith);
-      room = omega (arith, up, c.requires.room, before.size, lines_end a.c.style a.c.s a.x.now (arrays_in a.table.now) e before);
+      room = omega (arith, up, c.requires.room, before.size, lines_end a.view.now.drawing.now.counts.style a.view.now.drawing.now.counts.s a.view.now.x.now (arrays_in a.view.now.drawing.now.table) e before);
     }
 
 pub loop-e-preserved : goal.loop-e-preserved
