@@ -1,11 +1,11 @@
--- The ten arrays are all of a table.
+-- The eight arrays are all of a table.
 use Rattle.std.specs.Prelude.{◌≡◌}
 use Rattle.std.proofs.Common.{ap}
 use Rattle.store_links.specs.Arrays.{Arrays}
 use Rattle.store_tables.specs.declared.Table.{Table}
 use Rattle.store_tables.specs.Tables.{arrays_in}
 
--- the table of ten arrays
+-- the table of eight arrays
 abbrev table_of : Arrays → Table
 table_of a =
     record {
@@ -16,9 +16,7 @@ table_of a =
       dls = a.dls;
       drs = a.drs;
       hs = a.hs;
-      words = a.words;
-      later = a.later;
-      bends = a.bends;
+      lines = a.lines;
     }
 
 -- Tables with the same arrays are the same.

@@ -4,7 +4,7 @@
 ghost use Rattle.std.specs.Prelude.{◌≡◌};
 ghost use Rattle.store_tables.specs.Tables.{zeros};
 
-use rules::MOST_POINTS;
+use rules::{Bend, Kind, Line, MOST_POINTS};
 
 // Room for so many points, and so many lines.
 pub const POINTS: usize = MOST_POINTS;
@@ -21,10 +21,16 @@ pub struct Table {
     pub dls: [u16; POINTS],
     pub drs: [u16; POINTS],
     pub hs: [u16; POINTS],
-    pub words: [u16; LINES],
-    pub later: [u16; LINES],
-    pub bends: [u16; LINES],
+    pub lines: [Line; LINES],
 }
+
+// What stands where there is no line yet.
+const NO_LINE: Line = Line {
+    later: 0,
+    earlier: 0,
+    bend: Bend::NoBend,
+    kind: Kind::Guide,
+};
 
 impl Table {
     // A table that holds no drawing yet: every number is 0.
@@ -39,9 +45,7 @@ impl Table {
             dls: [0; POINTS],
             drs: [0; POINTS],
             hs: [0; POINTS],
-            words: [0; LINES],
-            later: [0; LINES],
-            bends: [0; LINES],
+            lines: [NO_LINE; LINES],
         }
     }
 }
