@@ -1,7 +1,9 @@
--- The one table that keeps a drawing, and the eight arrays in it.
+-- The one table that keeps a drawing, the eight arrays in it, and no drawing yet.
+use Rattle.rules.specs.declared.Style.TheVariants.{OneBend}
 use Rattle.store_links.specs.Arrays.{Arrays, arrays_of}
 use Rattle.store_links.specs.Opening.{no_points, no_lines}
 use Rattle.store_tables.specs.declared.Table.{Table}
+use Rattle.store_tables.specs.declared.Drawing.{Drawing}
 
 -- the arrays that a table keeps
 abbrev pub arrays_in : Table → Arrays
@@ -20,3 +22,7 @@ zeros =
       hs = no_points;
       lines = no_lines;
     }
+
+-- No drawing yet: every number is 0, no points and no lines.
+abbrev pub blank : Drawing
+blank = record { counts = record { style = OneBend; n = 0; s = 0; k = 0; m = 0; lines = 0 }; table = zeros }
