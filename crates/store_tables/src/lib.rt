@@ -1,8 +1,9 @@
-// The one lent table that keeps a drawing: an array with a word for each point, seven times, and one with a word for each line, three times.
+// The one lent table that keeps a drawing: what stands for each point, and for each line three arrays with a word.
 #![tactic(auto)]
 
-ghost use Rattle.std.specs.Prelude.{◌≡◌};
-ghost use Rattle.store_tables.specs.Tables.{zeros};
+ghost use Rattle.std.specs.Prelude.{◌≡◌, ◌<◌, ◌≤◌};
+ghost use Rattle.store_tables.specs.Tables.{arrays_in, zeros};
+ghost use Rattle.store_tables.specs.Columns.{point_at};
 
 use rules::MOST_POINTS;
 
@@ -11,16 +12,22 @@ pub const POINTS: usize = MOST_POINTS;
 
 pub const LINES: usize = 3 * POINTS;
 
-// A drawing's arrays: seven with a word for each point, three with a word for each line. Crate `store_links` says what each of them holds.
+// What the table keeps of a point. Crate `store_links` says what each number is.
+#[derive(Clone, Copy, Debug, PartialEq, Eq)]
+pub struct Point {
+    pub next: u16,
+    pub gap: u16,
+    pub owner: u16,
+    pub y: u16,
+    pub dl: u16,
+    pub dr: u16,
+    pub h: u16,
+}
+
+// The points and the lines of a drawing.
 #[derive(Clone, Copy)]
 pub struct Table {
-    pub next: [u16; POINTS],
-    pub gap: [u16; POINTS],
-    pub owner: [u16; POINTS],
-    pub ys: [u16; POINTS],
-    pub dls: [u16; POINTS],
-    pub drs: [u16; POINTS],
-    pub hs: [u16; POINTS],
+    pub points: [Point; POINTS],
     pub words: [u16; LINES],
     pub later: [u16; LINES],
     pub bends: [u16; LINES],
@@ -31,17 +38,29 @@ impl Table {
     pub fn zeros() -> Table
         ensures { result ≡ zeros }
     {
+        let point = Point {
+            next: 0,
+            gap: 0,
+            owner: 0,
+            y: 0,
+            dl: 0,
+            dr: 0,
+            h: 0,
+        };
         Table {
-            next: [0; POINTS],
-            gap: [0; POINTS],
-            owner: [0; POINTS],
-            ys: [0; POINTS],
-            dls: [0; POINTS],
-            drs: [0; POINTS],
-            hs: [0; POINTS],
+            points: [point; POINTS],
             words: [0; LINES],
             later: [0; LINES],
             bends: [0; LINES],
         }
+    }
+
+    // Point p, counted from 1.
+    #[tactic(auto, using(crate::specs::Columns::point_read))]
+    pub fn point(&self, p: usize) -> Point
+        requires { (0 < p) × (p ≤ 1024) }
+        ensures { result ≡ point_at (arrays_in self.now) p }
+    {
+        self.points[p - 1]
     }
 }
