@@ -7,14 +7,14 @@ ghost use Rattle.rules.specs.Styles as Styles;
 ghost use Rattle.store_links.specs.Arrays.{at_point};
 ghost use Rattle.store_links.specs.Placing.{inner_count};
 ghost use Rattle.store_links.specs.Storing.{put_at};
-ghost use Rattle.store_tables.specs.Tables.{arrays_in, zeros};
+ghost use Rattle.store_tables.specs.Tables.{arrays_in, blank};
 ghost use Rattle.store_points.specs.Storable.{Coverable, Linkable, Growable};
 ghost use Rattle.store_points.specs.Stages.{covered, linked};
 ghost use Rattle.store_links.specs.Opening.{open_arrays, open_counts};
 
 use rules::{Bend, Style};
 use store_links::{Counts, GAP_OFFSET, NO_PORT, Spot, line_code};
-use store_tables::Table;
+use store_tables::{Drawing, Table};
 use styles::{taken, third_x, third_y};
 use words::point_of;
 
@@ -77,39 +77,31 @@ fn three(words: &mut [u16], a: u16, b: u16, c: u16)
     words[2] = c;
 }
 
-// The three points and lines of a drawing of that style as opened for n points at the scale s, in a table of zeros; a, b and c are the entries of lines 1-2, 3-1 and 3-2.
+// The three points and lines of a drawing of that style as opened for n points at the scale s; a, b and c are the entries of lines 1-2, 3-1 and 3-2.
 #[tactic(auto, unfolding(store_links::specs::Opening::open_arrays))]
-pub fn open_in(
-    table: &mut Table,
-    style: Style,
-    n: usize,
-    s: usize,
-    a: u16,
-    b: u16,
-    c: u16,
-) -> Counts
-    requires { table.old ≡ zeros }
-    ensures { (arrays_in table.new ≡ open_arrays style a b c) × (result ≡ open_counts style n s) }
+pub fn open_in(d: &mut Drawing, style: Style, n: usize, s: usize, a: u16, b: u16, c: u16)
+    requires { d.old ≡ blank }
+    ensures { (arrays_in d.new.table ≡ open_arrays style a b c) × (d.new.counts ≡ open_counts style n s) }
 {
     let x = third_x(style);
     let y = third_y(style);
     let ports = taken(style, 0);
     let right = line_code(style, Bend::Right(1));
     let left = line_code(style, Bend::Left(1));
-    three(&mut table.next, 3, 0, 2);
-    three(&mut table.gap, 0, x, x);
-    three(&mut table.ys, 0, 0, y);
-    three(&mut table.dls, 0, ports, 0);
-    three(&mut table.drs, ports, 0, 0);
-    three(&mut table.words, a, b, c);
-    three(&mut table.later, 2, 3, 3);
-    three(&mut table.bends, NO_PORT, right, left);
-    Counts {
+    three(&mut d.table.next, 3, 0, 2);
+    three(&mut d.table.gap, 0, x, x);
+    three(&mut d.table.ys, 0, 0, y);
+    three(&mut d.table.dls, 0, ports, 0);
+    three(&mut d.table.drs, ports, 0, 0);
+    three(&mut d.table.words, a, b, c);
+    three(&mut d.table.later, 2, 3, 3);
+    three(&mut d.table.bends, NO_PORT, right, left);
+    d.counts = Counts {
         style,
         n,
         s,
         k: 3,
         m: 3,
         lines: 3,
-    }
+    };
 }

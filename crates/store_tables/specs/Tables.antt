@@ -1,9 +1,11 @@
--- The one table that keeps a drawing, and the arrays that it keeps.
+-- The one table that keeps a drawing, the columns in it, and no drawing yet.
 use Rattle.std.specs.Prelude.{ℕ, List, map, replicate}
+use Rattle.rules.specs.declared.Style.TheVariants.{OneBend}
 use Rattle.store_links.specs.Arrays.{Arrays, arrays_of}
 use Rattle.store_links.specs.Opening.{no_lines}
 use Rattle.store_tables.specs.declared.Point.{Point}
 use Rattle.store_tables.specs.declared.Table.{Table}
+use Rattle.store_tables.specs.declared.Drawing.{Drawing}
 
 -- the columns of a list of points
 abbrev pub nexts : List Point → List ℕ
@@ -44,3 +46,7 @@ zeros =
       later = no_lines;
       bends = no_lines;
     }
+
+-- No drawing yet: every number is 0, no points and no lines.
+abbrev pub blank : Drawing
+blank = record { counts = record { style = OneBend; n = 0; s = 0; k = 0; m = 0; lines = 0 }; table = zeros }

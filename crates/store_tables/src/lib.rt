@@ -1,11 +1,12 @@
-// The one lent table that keeps a drawing: what stands for each point, and for each line three arrays with a word.
+// A drawing as the program keeps it: its numbers, and its points and its lines in one table.
 #![tactic(auto)]
 
 ghost use Rattle.std.specs.Prelude.{◌≡◌, ◌<◌, ◌≤◌};
-ghost use Rattle.store_tables.specs.Tables.{arrays_in, zeros};
+ghost use Rattle.store_tables.specs.Tables.{arrays_in, zeros, blank};
 ghost use Rattle.store_tables.specs.Columns.{point_at};
 
-use rules::MOST_POINTS;
+use rules::{MOST_POINTS, Style};
+use store_links::Counts;
 
 // Room for so many points, and so many lines.
 pub const POINTS: usize = MOST_POINTS;
@@ -62,5 +63,31 @@ impl Table {
         ensures { result ≡ point_at (arrays_in self.now) p }
     {
         self.points[p - 1]
+    }
+}
+
+// A drawing: boundary links and gaps in one table. It is lent, so that no call has two on its stack (fixed memory).
+#[derive(Clone, Copy)]
+pub struct Drawing {
+    pub counts: Counts,
+    pub table: Table,
+}
+
+impl Drawing {
+    // No drawing yet: every number is 0, no points and no lines.
+    pub fn blank() -> Drawing
+        ensures { result ≡ blank }
+    {
+        Drawing {
+            counts: Counts {
+                style: Style::OneBend,
+                n: 0,
+                s: 0,
+                k: 0,
+                m: 0,
+                lines: 0,
+            },
+            table: Table::zeros(),
+        }
     }
 }

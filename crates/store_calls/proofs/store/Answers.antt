@@ -9,11 +9,12 @@ use Rattle.store_calls.specs.Stages.{lined}
 use Rattle.store_calls.proofs.Whole.{whole}
 use Rattle.store_calls.proofs.store.Goals as goal
 
-pub returns : goal.returns
-returns c =
+pub returns-clause-arrays : goal.returns-clause-arrays
+returns-clause-arrays c =
     let a = c.args in
-    let τ = a.c.style in
-    let v = a.c.k + 1 in
+    let d = a.d.now in
+    let τ = d.counts.style in
+    let v = d.counts.k + 1 in
     let wl = c.point_of-wl.result in
     let wr = c.point_of-wr.result in
     let tied = c.link.ensures ∙ ap (λ (b : Arrays). linked b v wl wr a.p) c.cover.ensures in
@@ -22,5 +23,5 @@ returns c =
     let grown_r = c.grow_ports-rights.ensures.grown ∙ ap (λ (b : Arrays). grown τ b.drs v wl) tied in
     let grown_l = c.grow_ports-lefts.ensures.grown ∙ ap (λ (b : Arrays). grown τ b.dls v wr) tied in
     let ports : ◌≡◌ {A = Arrays} (record (arrays_in c.link.new.table) { dls = c.grow_ports-lefts.new.ports; drs = c.grow_ports-rights.new.ports }) _ = λ i. record (tied i) { dls = grown_l i; drs = grown_r i } in
-    let add : Arrays → Arrays = λ b. lined b a.e.now a.c.lines (suc a.c.k) (code_of τ c.grow_ports-rights.result c.grow_ports-lefts.result (length a.e.now - 1) a.from) (length a.e.now) in
-    c.push_lines.ensures ∙ ap add ports ∙ whole (arrays_in a.table.now) a.c a.e.now a.p a.from c.point_of-wl.ensures c.point_of-wr.ensures rights lefts
+    let add : Arrays → Arrays = λ b. lined b a.e.now d.counts.lines (suc d.counts.k) (code_of τ c.grow_ports-rights.result c.grow_ports-lefts.result (length a.e.now - 1) a.from) (length a.e.now) in
+    c.push_lines.ensures.arrays ∙ ap add ports ∙ whole (arrays_in d.table) d.counts a.e.now a.p a.from c.point_of-wl.ensures c.point_of-wr.ensures rights lefts
