@@ -28,4 +28,4 @@ table_same t t' e =
       dr = at (λ (p : Point). p.dr) (ap (λ (a : Arrays). a.drs) e) i j;
       h = at (λ (p : Point). p.h) (ap (λ (a : Arrays). a.hs) e) i j;
     }) in
-    λ j. record { points = points j; words = (e j).words; later = (e j).later; bends = (e j).bends }
+    λ j. record { points = points j; lines = (e j).lines }

@@ -31,7 +31,7 @@ hs ps = map (λ (p : Point). p.h) ps
 
 -- the arrays that a table keeps: a column for each number of a point
 abbrev pub arrays_in : Table → Arrays
-arrays_in t = arrays_of (nexts t.points) (gaps t.points) (owners t.points) (ys t.points) (dls t.points) (drs t.points) (hs t.points) t.words t.later t.bends
+arrays_in t = arrays_of (nexts t.points) (gaps t.points) (owners t.points) (ys t.points) (dls t.points) (drs t.points) (hs t.points) t.lines
 
 -- every number of a point is 0
 abbrev pub no_point : Point
@@ -42,9 +42,7 @@ abbrev pub zeros : Table
 zeros =
     record {
       points = replicate 1024 no_point;
-      words = no_lines;
-      later = no_lines;
-      bends = no_lines;
+      lines = no_lines;
     }
 
 -- No drawing yet: every number is 0, no points and no lines.

@@ -5,7 +5,7 @@ ghost use Rattle.std.specs.Prelude.{◌≡◌, ◌<◌, ◌≤◌};
 ghost use Rattle.store_tables.specs.Tables.{arrays_in, zeros, blank};
 ghost use Rattle.store_tables.specs.Columns.{point_at};
 
-use rules::{MOST_POINTS, Style};
+use rules::{Bend, Kind, Line, MOST_POINTS, Style};
 use store_links::Counts;
 
 // Room for so many points, and so many lines.
@@ -29,30 +29,35 @@ pub struct Point {
 #[derive(Clone, Copy)]
 pub struct Table {
     pub points: [Point; POINTS],
-    pub words: [u16; LINES],
-    pub later: [u16; LINES],
-    pub bends: [u16; LINES],
+    pub lines: [Line; LINES],
 }
+
+// What stands where there is no point yet, and no line.
+const NO_POINT: Point = Point {
+    next: 0,
+    gap: 0,
+    owner: 0,
+    y: 0,
+    dl: 0,
+    dr: 0,
+    h: 0,
+};
+
+const NO_LINE: Line = Line {
+    later: 0,
+    earlier: 0,
+    bend: Bend::NoBend,
+    kind: Kind::Guide,
+};
 
 impl Table {
     // A table that holds no drawing yet: every number is 0.
     pub fn zeros() -> Table
         ensures { result ≡ zeros }
     {
-        let point = Point {
-            next: 0,
-            gap: 0,
-            owner: 0,
-            y: 0,
-            dl: 0,
-            dr: 0,
-            h: 0,
-        };
         Table {
-            points: [point; POINTS],
-            words: [0; LINES],
-            later: [0; LINES],
-            bends: [0; LINES],
+            points: [NO_POINT; POINTS],
+            lines: [NO_LINE; LINES],
         }
     }
 
