@@ -94,12 +94,8 @@ pub fn open_in(d: &mut Drawing, style: Style, n: usize, s: usize, a: u16, b: u16
     three(&mut d.table.ys, 0, 0, y);
     three(&mut d.table.dls, 0, ports, 0);
     three(&mut d.table.drs, ports, 0, 0);
-    three(
-        &mut d.table.lines,
-        ground,
-        line_of(3, right, b),
-        line_of(3, left, c),
-    );
+    let lines = &mut d.table.lines;
+    three(lines, ground, line_of(3, right, b), line_of(3, left, c));
     d.counts = Counts {
         style,
         n,
