@@ -1,4 +1,4 @@
-// The words of points in the lent table: those of a drawing as opened, and what changes at the points of a run and at the new point.
+// The points in the lent table: those of a drawing as opened, and what changes at the points of a run and at the new point.
 // For the crates above: opening asks for a table of zeros, the others for a run that passed the tests and for the new point's place.
 #![tactic(auto)]
 
@@ -13,9 +13,9 @@ ghost use Rattle.store_points.specs.Stages.{covered, linked};
 ghost use Rattle.store_links.specs.Opening.{open_arrays, open_counts};
 
 use rules::{Bend, Style};
-use store_links::{Counts, GAP_OFFSET, NO_PORT, Spot, line_code};
+use store_links::{Counts, GAP_OFFSET, Spot, line_of};
 use store_tables::{Drawing, Table};
-use styles::{taken, third_x, third_y};
+use styles::{bent, taken, third_x, third_y};
 use words::point_of;
 
 // The value at point p becomes v.
@@ -67,14 +67,14 @@ pub fn grow_ports(ports: &mut [u16], style: Style, v: usize, w: usize) -> u16
     index
 }
 
-// The first three words.
-fn three(words: &mut [u16], a: u16, b: u16, c: u16)
-    requires { 2 < length words.old }
-    ensures { words.new ≡ set (set (set words.old 0 a) 1 b) 2 c }
+// The first three of a list.
+fn three<T: Copy>(list: &mut [T], a: T, b: T, c: T)
+    requires { 2 < length list.old }
+    ensures { list.new ≡ set (set (set list.old 0 a) 1 b) 2 c }
 {
-    words[0] = a;
-    words[1] = b;
-    words[2] = c;
+    list[0] = a;
+    list[1] = b;
+    list[2] = c;
 }
 
 // The three points and lines of a drawing of that style as opened for n points at the scale s; a, b and c are the entries of lines 1-2, 3-1 and 3-2.
@@ -86,16 +86,20 @@ pub fn open_in(d: &mut Drawing, style: Style, n: usize, s: usize, a: u16, b: u16
     let x = third_x(style);
     let y = third_y(style);
     let ports = taken(style, 0);
-    let right = line_code(style, Bend::Right(1));
-    let left = line_code(style, Bend::Left(1));
+    let ground = line_of(2, Bend::NoBend, a);
+    let right = bent(style, Bend::Right(1));
+    let left = bent(style, Bend::Left(1));
     three(&mut d.table.next, 3, 0, 2);
     three(&mut d.table.gap, 0, x, x);
     three(&mut d.table.ys, 0, 0, y);
     three(&mut d.table.dls, 0, ports, 0);
     three(&mut d.table.drs, ports, 0, 0);
-    three(&mut d.table.words, a, b, c);
-    three(&mut d.table.later, 2, 3, 3);
-    three(&mut d.table.bends, NO_PORT, right, left);
+    three(
+        &mut d.table.lines,
+        ground,
+        line_of(3, right, b),
+        line_of(3, left, c),
+    );
     d.counts = Counts {
         style,
         n,
