@@ -1,5 +1,5 @@
-// One adding call on the lent table: tested, placed, stored. Work for its run and its lines, and nothing else.
-// For the crates above: it asks for the table of a drawing, which they have.
+// One adding call on the lent drawing: tested, placed, stored. Work for its run and its lines, and nothing else.
+// For the crates above: it asks for a stored drawing, which they have.
 #![tactic(auto)]
 
 ghost use Rattle.std.specs.Prelude.{◌≡◌, pred, ◌-◌, ◌<◌, length};
@@ -7,13 +7,13 @@ ghost use Rattle.store_links.specs.Placing.{entry_point, change_from, all_reach_
 ghost use Rattle.store_links.specs.Runs.{Within};
 ghost use Rattle.store_links.specs.Storing.{spot_for};
 ghost use Rattle.store_tables.specs.Tables.{arrays_in};
-ghost use Rattle.store_laws.specs.Adding.{Ready};
+ghost use Rattle.store_laws.specs.Stored.{Stored};
 ghost use Rattle.store_placing.specs.Small.{Small};
 ghost use Rattle.store_adding.specs.Calls.{Runs, ports_by, Answered};
 
 use rules::{Answer, Refusal, Style};
-use store_links::{Counts, Spot};
-use store_tables::Table;
+use store_links::Spot;
+use store_tables::{Drawing, Table};
 
 // The index at which the arrays keep the point of entry i.
 fn index_at(e: &[u16], i: usize) -> usize
@@ -54,18 +54,19 @@ fn ports_over(style: Style, e: &[u16], table: &Table, p: Spot) -> Option<usize>
     store_placing::ports_of(p, &table.gap, &table.ys, e)
 }
 
-// Adds a point with the entries e as its earlier neighbours, and gives the numbers after it; or refuses and leaves the table as it is.
-pub fn add(table: &mut Table, c: Counts, e: &[u16]) -> Answer<Counts>
-    requires { Ready (arrays_in table.old) c }
-    ensures { Answered (arrays_in table.old) c e.now (arrays_in table.new) result }
+// Adds a point with the entries e as its earlier neighbours; or refuses and leaves the drawing as it is.
+pub fn add(d: &mut Drawing, e: &[u16]) -> Answer<()>
+    requires { Stored d.old }
+    ensures { Answered d.old e.now d.new result }
 {
-    store_judging::judge(e, &table.owner, &table.next, c)?;
-    let style = c.style;
-    let p = spot_over(style, e, table);
-    let ports = ports_over(style, e, table, p);
+    store_judging::judge(e, &d.table.owner, &d.table.next, d.counts)?;
+    let style = d.counts.style;
+    let p = spot_over(style, e, &d.table);
+    let ports = ports_over(style, e, &d.table, p);
     let Some(from) = ports else {
         return Err(Refusal::NoReach.at(0));
     };
-    store_calls::store(table, c, e, p, from);
-    Ok(store_links::counts_with(c, e.len()))
+    store_calls::store(d, e, p, from);
+    d.counts = store_links::counts_with(d.counts, e.len());
+    Ok(())
 }
