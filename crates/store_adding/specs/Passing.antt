@@ -176,8 +176,8 @@ module _ (d : Drawing) (es : List ℕ) (o : Spot) (all_good : tests (arrays_in d
   reach_by b e = judged_by a c es (good tt) all_good ∙ rw (sym e, at)
 
   -- 25 refuses, which it does only where lines bend.
-  pub refused-late : (r : Option ℕ) → r ≡ ports_by c.style (length es - 1) change all → r ≡ None → Answered d es d (Err (refusal_at NoReach 0))
-  refused-late r e q = stays d es (refusal_at NoReach 0) (reach_by false (told c.style (sym e ∙ q)))
+  pub refused-late : (r : Option ℕ) → r ≡ ports_by c.style (length es - 1) change all → r ≡ None → (f : Refused) → f ≡ refusal_at NoReach 0 → Answered d es d (Err f)
+  refused-late r e q f is = rw is (stays d es (refusal_at NoReach 0) (reach_by false (told c.style (sym e ∙ q))))
     where
       told : (τ : Style) → ports_by τ (length es - 1) change all ≡ None → reach_passes τ all ≡ false
       told OneBend h = none_told change all h

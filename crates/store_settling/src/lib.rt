@@ -1,5 +1,5 @@
 // The x of every placed point, from links and gaps; and the place where a line bends.
-// For the crates above: it asks for the table of a drawing, which they have.
+// For the crates above: it asks for a stored drawing, which they have.
 #![tactic(auto)]
 
 ghost use Rattle.std.specs.Prelude.{◌≡◌, ◌<◌, ◌≤◌, length, get_or};
@@ -11,7 +11,7 @@ ghost use Rattle.store_settling.specs.Bends.{Bendable, bend_in};
 
 use rules::{Bend, Place};
 use store_links::GAP_OFFSET;
-use store_tables::{POINTS, Table};
+use store_tables::{Drawing, POINTS};
 
 // The first pass: boundary points along the links from point 1, which lies at 0.
 fn walk(x: &mut [u16; POINTS], next: &[u16], gap: &[u16], k: usize)
@@ -57,19 +57,29 @@ fn hang(x: &mut [u16; POINTS], gap: &[u16], owner: &[u16], k: usize)
 }
 
 // The x of every placed point.
-pub fn settle(x: &mut [u16; POINTS], table: &Table, k: usize)
-    requires { Settleable x.old (arrays_in table.now) k }
-    ensures { Settled x.new (arrays_in table.now) k }
+pub fn settle(x: &mut [u16; POINTS], d: &Drawing)
+    requires { Settleable x.old (arrays_in d.now.table) d.now.counts.k }
+    ensures { Settled x.new (arrays_in d.now.table) d.now.counts.k }
 {
-    walk(x, &table.next, &table.gap, k);
-    hang(x, &table.gap, &table.owner, k);
+    let k = d.counts.k;
+    walk(x, &d.table.next, &d.table.gap, k);
+    hang(x, &d.table.gap, &d.table.owner, k);
+}
+
+// A drawing with the x of every placed point: what look-ups, moves and writers read.
+#[derive(Clone, Copy)]
+pub struct View<'a> {
+    pub drawing: &'a Drawing,
+    pub x: &'a [u16; POINTS],
 }
 
 // Where a line bends, from the places of now.
-pub fn bend_of(x: &[u16; POINTS], table: &Table, later: usize, earlier: usize, b: Bend) -> Place
-    requires { Bendable x.now (arrays_in table.now) later earlier b }
-    ensures { result ≡ bend_in x.now (arrays_in table.now) later earlier b }
+pub fn bend_of(view: &View, later: usize, earlier: usize, b: Bend) -> Place
+    requires { Bendable view.now.x.now (arrays_in view.now.drawing.now.table) later earlier b }
+    ensures { result ≡ bend_in view.now.x.now (arrays_in view.now.drawing.now.table) later earlier b }
 {
+    let x = view.x;
+    let table = &view.drawing.table;
     let p = later - 1;
     let q = earlier - 1;
     match b {

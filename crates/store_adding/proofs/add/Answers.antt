@@ -23,7 +23,7 @@ ports_over-ports-requires c =
 pub returns-in_default : goal.returns-in_default
 returns-in_default c =
     let g = (accepted _ (sym c.judge.ensures ∙ c.in_ok-judge.was)).is in
-    rw c.at.ensures (refused-late c.args.d.now c.args.e.now _ g c.spot_over-p.ensures _ c.ports_over-ports.ensures c.in_default.is)
+    refused-late c.args.d.now c.args.e.now _ g c.spot_over-p.ensures _ c.ports_over-ports.ensures c.in_default.is _ c.at.ensures
 
 pub store-requires : goal.store-requires
 store-requires c =
