@@ -14,8 +14,8 @@ ghost use Rattle.store_links.specs.Opening.{open_arrays, open_counts};
 
 use rules::{Bend, Style};
 use store_links::{Counts, GAP_OFFSET, Spot, line_of};
-use store_tables::{Drawing, Table};
-use styles::{bent, taken, third_x, third_y};
+use store_tables::{Drawing, NO_POINT, Point, Table};
+use styles::{bent, second_x, taken, third_x, third_y};
 use words::point_of;
 
 // The value at point p becomes v.
@@ -84,17 +84,28 @@ pub fn open_in(d: &mut Drawing, style: Style, n: usize, s: usize, a: u16, b: u16
     ensures { (arrays_in d.new.table ≡ open_arrays style a b c) × (d.new.counts ≡ open_counts style n s) }
 {
     let x = third_x(style);
-    let y = third_y(style);
     let ports = taken(style, 0);
+    let first = Point {
+        next: 3,
+        dr: ports,
+        ..NO_POINT
+    };
+    let second = Point {
+        gap: second_x(style) - x,
+        dl: ports,
+        ..NO_POINT
+    };
+    let third = Point {
+        next: 2,
+        gap: x,
+        y: third_y(style),
+        ..NO_POINT
+    };
+    three(&mut d.table.points, first, second, third);
+    let lines = &mut d.table.lines;
     let ground = line_of(2, Bend::NoBend, a);
     let right = bent(style, Bend::Right(1));
     let left = bent(style, Bend::Left(1));
-    three(&mut d.table.next, 3, 0, 2);
-    three(&mut d.table.gap, 0, x, x);
-    three(&mut d.table.ys, 0, 0, y);
-    three(&mut d.table.dls, 0, ports, 0);
-    three(&mut d.table.drs, ports, 0, 0);
-    let lines = &mut d.table.lines;
     three(lines, ground, line_of(3, right, b), line_of(3, left, c));
     d.counts = Counts {
         style,

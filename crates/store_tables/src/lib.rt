@@ -33,7 +33,7 @@ pub struct Table {
 }
 
 // What stands where there is no point yet, and no line.
-const NO_POINT: Point = Point {
+pub const NO_POINT: Point = Point {
     next: 0,
     gap: 0,
     owner: 0,
