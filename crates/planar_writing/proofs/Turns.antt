@@ -5,13 +5,12 @@ use mathlib.Core.List.{List, [], ◌∷◌, ◌++◌, map}
 use native.Mathlib.Omega.{arith}
 use native.Mathlib.Nat.{zero-add}
 use native.Mathlib.Numerals.{add-one}
-use lib.ListN.{length, get_or, take, drop, set, length-map, length-append, length-drop, drop_of_length-le}
-use lib.Seq.{drop-cons, drop-drop, length-take-le}
-use Rattle.words.specs.Bytes.{with_word}
-use Rattle.words.specs.Writing.{Pasted, Stored, stored_next, Ahead, ahead_all, ahead_as, ahead_word, ahead-part, ahead_none}
+use lib.ListN.{length, get_or, take, drop, set, length-map, length-append, length-drop}
+use lib.Seq.{drop-drop, length-take-le}
+use Rattle.words.specs.Writing.{Pasted, Stored, stored_next, Ahead, ahead_all, ahead_as, ahead-part, ahead_none}
 use Rattle.planar_numbering.specs.Points.{Fitting}
 use Rattle.planar_rules.specs.PlanarCode.{point_of}
-use Rattle.planar_writing.specs.Words.{numbers_of, point_words, points_words}
+use Rattle.planar_writing.specs.Words.{point_words, points_words}
 
 -- ---- the entries of a point
 
@@ -21,31 +20,6 @@ entries_at ent from count = take count (drop from ent)
 
 pub length-entries : (ent : List ℕ) (from count : ℕ) → from + count ≤ length ent → length (entries_at ent from count) ≡ count
 length-entries ent from count h = length-take-le count (drop from ent) (omega (arith, length-drop from ent))
-
--- i entries are written, the others are ahead
-pub record Entering (out₀ : List ℕ) (at : ℕ) (num es out : List ℕ) (place i : ℕ) : Type 0 where
-  pub within : i ≤ length es
-  pub ahead : Ahead out₀ at (numbers_of num es) out place (numbers_of num (drop i es))
-
-pub entering_start : (out : List ℕ) (at : ℕ) (num es : List ℕ) → Entering out at num es out at 0
-entering_start out at num es = record { within = omega arith; ahead = ahead_all out at (numbers_of num es) }
-
-module _ {out₀ : List ℕ} {at : ℕ} {num es out : List ℕ} {place i : ℕ} (h : Entering out₀ at num es out place i) where
-  -- the next entry has room
-  pub entering_room : i < length es → at + 2 * length es ≤ length out₀ → place + 1 < length out
-  entering_room b r =
-      omega (arith, h.ahead.place, h.ahead.long, length-map es (λ v. point_of num v), length-map (drop i es) (λ v. point_of num v), length-drop i es)
-
-  -- and is written
-  pub entering_more : {w : ℕ} {out' : List ℕ} → i < length es → w ≡ point_of num (get_or es i 0) → out' ≡ with_word out place w → Entering out₀ at num es out' (place + 2) (i + 1)
-  entering_more b e o =
-      let next : numbers_of num (drop i es) ≡ point_of num (get_or es i 0) ∷ numbers_of num (drop (i + 1) es) =
-      ap (numbers_of num) (drop-cons es i 0 b ∙ ap (λ (k : ℕ). get_or es i 0 ∷ drop k es) (sym (add-one i))) in
-      record { within = omega arith; ahead = ahead_word (ahead_as next h.ahead) (o ∙ ap (with_word out place) e) }
-
-  -- all are written
-  pub entered : length es ≤ i → Pasted out₀ at (numbers_of num es) out place
-  entered b = ahead_none (ahead_as (ap (numbers_of num) (drop_of_length-le es {i = i} b)) h.ahead)
 
 -- ---- the records of the points
 

@@ -4,11 +4,13 @@
 
 ghost use Rattle.std.specs.Prelude.{◌≡◌, map, ℕ, suc, ◌+◌, ◌*◌, ◌<◌, ◌≤◌, length, get_or, drop};
 ghost use Rattle.rules.specs.Records.{bytes_of};
-ghost use Rattle.words.specs.Writing.{Pasted, Stored};
+ghost use Rattle.words.specs.Writing.{Stored};
+ghost use Rattle.pages.specs.Pages.{HasRoom, Grown};
 ghost use Rattle.planar_rules.specs.PlanarCode.{point_of};
 ghost use Rattle.planar_numbering.specs.Points.{Fitting};
 ghost use Rattle.planar_writing.specs.Words.{numbers_of, point_words, points_words, order_words, Puttable};
 
+use pages::Page;
 use planar_choosing::Row;
 use planar_numbering::Points;
 use rules::{ENTRIES_MARK, ORDER_MARK};
@@ -20,53 +22,49 @@ fn number_of(by_point: &Row, v: u8) -> u16
     by_point.index_of(v).unwrap_or(by_point.len()) as u16 + 1
 }
 
-// Writes the numbers of these vertices. Returns the place behind them.
-fn put_entries(out: &mut [u8], at: usize, entries: &[u8], by_point: &Row) -> usize
-    requires { at + 2 * length entries.now ≤ length out.old }
-    ensures { Pasted out.old at (numbers_of by_point.now entries.now) out.new result }
+// Puts the numbers of these vertices behind what stands in the page.
+fn put_entries(page: &mut Page<'_>, entries: &[u8], by_point: &Row)
+    requires { HasRoom page.old (2 * length entries.now) }
+    ensures { Grown page.old (bytes_of (numbers_of by_point.now entries.now)) page.new }
 {
-    let mut place = at;
     for &v in entries {
-        words::put_word(out, place, number_of(by_point, v));
-        place += 2;
+        page.word(number_of(by_point, v));
     }
-    place
 }
 
-// Writes the record of a point with these entries.
-fn put_point(out: &mut [u8], at: usize, entries: &[u8], by_point: &Row) -> usize
-    requires { (length entries.now < 65536) × (at + 4 + 2 * length entries.now ≤ length out.old) }
-    ensures { Pasted out.old at (point_words by_point.now entries.now) out.new result }
+// Puts the record of a point with these entries there.
+fn put_point(page: &mut Page<'_>, entries: &[u8], by_point: &Row)
+    requires { (length entries.now < 65536) × HasRoom page.old (4 + 2 * length entries.now) }
+    ensures { Grown page.old (bytes_of (point_words by_point.now entries.now)) page.new }
 {
-    let place = write_records::put_two(out, at, ENTRIES_MARK, entries.len());
-    put_entries(out, place, entries, by_point)
+    write_records::put_two(page, ENTRIES_MARK, entries.len());
+    put_entries(page, entries, by_point);
 }
 
-// Writes the records of all points.
-fn put_points(out: &mut [u8], at: usize, points: &Points, by_point: &Row) -> usize
+// Puts the records of all points there.
+fn put_points(page: &mut Page<'_>, points: &Points, by_point: &Row)
     requires entries { (points.now.from ≤ 768) × Fitting points.now.counts 0 (length by_point.now) (drop points.now.from points.now.entries) }
-    requires room { at + 2 * length (points_words by_point.now points.now.counts 0 (length by_point.now) (drop points.now.from points.now.entries)) ≤ length out.old }
-    ensures { Pasted out.old at (points_words by_point.now points.now.counts 0 (length by_point.now) (drop points.now.from points.now.entries)) out.new result }
+    requires room { HasRoom page.old (2 * length (points_words by_point.now points.now.counts 0 (length by_point.now) (drop points.now.from points.now.entries))) }
+    ensures { Grown page.old (bytes_of (points_words by_point.now points.now.counts 0 (length by_point.now) (drop points.now.from points.now.entries))) page.new }
 {
-    let mut place = at;
     let mut from = points.from;
     for i in 0..by_point.len() {
         let end = from + usize::from(points.counts[i]);
-        place = put_point(out, place, &points.entries[from..end], by_point);
+        put_point(page, &points.entries[from..end], by_point);
         from = end;
     }
-    place
 }
 
-// Writes the order file. Returns its length.
-fn put_order(out: &mut [u8], points: &Points, by_point: &Row) -> usize
+// Writes the order file.
+fn put_order(out: &mut [u8], points: &Points, by_point: &Row)
     requires entries { (points.now.from ≤ 768) × Fitting points.now.counts 0 (length by_point.now) (drop points.now.from points.now.entries) }
     requires room { 2 * length (order_words by_point.now points.now.counts (drop points.now.from points.now.entries)) ≤ length out.old }
-    ensures { Pasted out.old 0 (order_words by_point.now points.now.counts (drop points.now.from points.now.entries)) out.new result }
+    ensures { Stored out.old 0 (bytes_of (order_words by_point.now points.now.counts (drop points.now.from points.now.entries))) out.new }
 {
-    let behind = write_records::put_two(out, 0, ORDER_MARK, by_point.len());
-    let end = put_points(out, behind, points, by_point);
-    write_records::put_end(out, end)
+    let mut page = Page::new(out);
+    write_records::put_two(&mut page, ORDER_MARK, by_point.len());
+    put_points(&mut page, points, by_point);
+    write_records::put_end(&mut page);
 }
 
 // Writes these vertices; the file counts them from 1.

@@ -4,8 +4,8 @@ use Rattle.std.proofs.Common.{ap, sym, ◌∙◌, append-nil, append_assoc, add-
 use Rattle.rules.specs.Decimal.{digits}
 use Rattle.planar_rules.specs.Programs.{vertex_line, vertex_lines}
 use Rattle.printing_line.specs.Numbers.{digits_most}
-use Rattle.printing_line.specs.declared.Page.{Page}
-use Rattle.printing_line.specs.Pages.{Grown, grown_both}
+use Rattle.pages.specs.declared.Page.{Page}
+use Rattle.pages.specs.Pages.{Grown, grown_both}
 
 -- a byte has at most three digits; behind them is the line feed
 abbrev pub vertex_most : ℕ

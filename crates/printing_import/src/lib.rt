@@ -6,7 +6,7 @@ ghost use Rattle.std.specs.Prelude.{◌≡◌, ℕ, ◌+◌, ◌*◌, ◌≤◌,
 ghost use Rattle.rules.specs.Refusals.{Result as Wanted};
 ghost use Rattle.rules.specs.Output.{judged_bytes};
 ghost use Rattle.printing_line.specs.Putting.{Printed, most_digits, line_room};
-ghost use Rattle.printing_line.specs.Pages.{HasRoom, Grown};
+ghost use Rattle.pages.specs.Pages.{HasRoom, Grown};
 ghost use Rattle.printing.specs.Began.{Began};
 ghost use Rattle.planar_rules.specs.PlanarCode.{most_vertices, Import};
 ghost use Rattle.planar_rules.specs.Programs.{longest_import, import_program, vertex_line, vertex_lines, vertices_program};
@@ -14,7 +14,7 @@ ghost use Rattle.printing_import.specs.Lines.{vertex_most};
 ghost use Rattle.printing_import.specs.Finishing.{refused_for, Within, Shown, shown_as, order_in, lines_in};
 
 use answers::{NotImported, Sizes};
-use printing_line::Page;
+use pages::Page;
 use rules::{Refusal, Refused};
 
 // Puts the line of a vertex into the page.
@@ -23,7 +23,7 @@ fn put_vertex(page: &mut Page<'_>, v: u8)
     ensures exact { Grown page.old (vertex_line v) page.new }
     ensures within { page.new.at ≤ page.old.at + vertex_most }
 {
-    page.decimal(u64::from(v));
+    printing_line::put_decimal(page, u64::from(v));
     page.text(b"\n");
 }
 

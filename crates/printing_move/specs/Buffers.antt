@@ -8,8 +8,8 @@ use Rattle.tool.specs.declared.Move.{Move as FloatMove}
 use Rattle.tool.specs.declared.Move.TheVariants.{Travel, Plunge, Cut, Lift}
 use Rattle.tool.specs.Showing.{in_floats, move_kind, move_numbers}
 use Rattle.tool.specs.Exact.{small_at}
-use Rattle.printing_line.specs.declared.Page.{Page}
-use Rattle.printing_line.specs.Pages.{Grown, grown_both}
+use Rattle.pages.specs.declared.Page.{Page}
+use Rattle.pages.specs.Pages.{Grown, grown_both}
 use Rattle.cutter_lists.specs.Listing.{kinds_of, numbers_of}
 use Rattle.printing_move.specs.Lines.{Told, Held}
 

@@ -11,9 +11,9 @@ use Rattle.tool.specs.declared.Move.TheVariants.{Travel, Plunge, Cut, Lift}
 use Rattle.tool.specs.Showing.{over_eight, in_floats, move_kind, move_numbers}
 use Rattle.tool.specs.Exact.{Small, AllSmall, exact, negated}
 use Rattle.printing_line.specs.Numbers.{digits_most}
-use Rattle.printing_line.specs.declared.Page.{Page}
+use Rattle.pages.specs.declared.Page.{Page}
 use Rattle.printing_line.specs.Putting.{most_digits}
-use Rattle.printing_line.specs.Pages.{Grown, grown_both}
+use Rattle.pages.specs.Pages.{Grown, grown_both}
 use Rattle.cutter_lists.specs.Listing.{kinds_of, numbers_of}
 
 -- ---- bounds

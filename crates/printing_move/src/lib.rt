@@ -5,10 +5,12 @@ ghost use Rattle.std.specs.Prelude.{◌≡◌, ◌+◌, ◌*◌, ◌≤◌, ◌<
 ghost use Rattle.rules.specs.Moves.{Move as WholeMove};
 ghost use Rattle.rules.specs.MoveLines.{fraction, millimetres, move_lines};
 ghost use Rattle.printing_line.specs.Putting.{Printed};
-ghost use Rattle.printing_line.specs.Pages.{HasRoom, Grown, Within};
+ghost use Rattle.pages.specs.Pages.{HasRoom, Grown};
+ghost use Rattle.printing_line.specs.Pages.{Within};
 ghost use Rattle.printing_move.specs.Lines.{limit, number_room, number_most, pair_room, pair_most, move_room, move_most, Eighths, PairLine, HeightLine, MoveLine, MoveOf, Held};
 
-use printing_line::Page;
+use pages::Page;
+use printing_line::put_decimal;
 use tool::Move;
 
 // How many eighths of a millimetre x is, if that is a whole number below 2 ^ 24; some such number for any other x.
@@ -43,7 +45,7 @@ fn put_millimetres(page: &mut Page<'_>, n: u64)
     ensures exact { Grown page.old (millimetres n) page.new }
     ensures within { page.new.at ≤ page.old.at + number_most }
 {
-    page.decimal(n / 8);
+    put_decimal(page, n / 8);
     page.text(fraction(n % 8));
 }
 

@@ -8,29 +8,30 @@ use Rattle.rules.specs.declared.Style.{Style}
 use Rattle.rules.specs.declared.Style.TheVariants.{OneBend, Straight}
 use Rattle.rules.specs.declared.Line.{Line}
 use Rattle.rules.specs.declared.Place.{Place}
-use Rattle.rules.specs.Records.{written, point_place, line_shape, end_mark, place_size, line_size}
+use Rattle.rules.specs.Records.{bytes_of, written, point_place, line_shape, end_mark, place_size, line_size}
 use Rattle.rules.specs.DrawingFile.{highest, last_field}
 use Rattle.rules.specs.Styles.{drawing_mark}
 use Rattle.store_links.specs.declared.Counts.{Counts}
 use Rattle.store_links.specs.Arrays.{Arrays}
 use Rattle.store_lines.specs.Lines.{line_in}
 use Rattle.write_drawings.specs.Lists.{several, point_bytes, bend_at, line_bytes, file_bytes}
-use Rattle.words.specs.Writing.{Stored, Pasted, behind}
+use Rattle.pages.specs.declared.Page.{Page}
+use Rattle.pages.specs.Pages.{Grown, grown_both}
 use Rattle.write_drawings.specs.Stores.{length-several}
 use Rattle.write_drawings.specs.Files.{length-line}
 
 -- The numbers that are written are the line's record, with its bend
-pub line-stored : (xs : List ℕ) (a : Arrays) (s e : ℕ) {τ : Style} {l : Line} {place : Place} {x y field at : ℕ} {o o' : List ℕ} → τ ≡ OneBend → l ≡ line_in a e →
+pub line-put : (xs : List ℕ) (a : Arrays) (s e : ℕ) {τ : Style} {l : Line} {place : Place} {x y field : ℕ} {page after : Page} → τ ≡ OneBend → l ≡ line_in a e →
     place ≡ bend_at xs a l → x ≡ s * place.x → y ≡ s * place.y → field ≡ last_field l.kind →
-    Stored o at (written (line_shape OneBend) (l.later ∷ l.earlier ∷ x ∷ y ∷ field ∷ [])) o' → Stored o at (line_bytes τ s xs a e) o'
+    Grown page (written (line_shape OneBend) (l.later ∷ l.earlier ∷ x ∷ y ∷ field ∷ [])) after → Grown page (line_bytes τ s xs a e) after
 unfolding line_bytes
-line-stored xs a s e t is p x y m h = rw t (rw (x, y, m, p, is) at h)
+line-put xs a s e t is p x y m h = rw t (rw (x, y, m, p, is) at h)
 
 -- or without one.
-pub straight-stored : (xs : List ℕ) (a : Arrays) (s e : ℕ) {τ : Style} {l : Line} {field at : ℕ} {o o' : List ℕ} → τ ≡ Straight → l ≡ line_in a e → field ≡ last_field l.kind →
-    Stored o at (written (line_shape Straight) (l.later ∷ l.earlier ∷ field ∷ [])) o' → Stored o at (line_bytes τ s xs a e) o'
+pub straight-put : (xs : List ℕ) (a : Arrays) (s e : ℕ) {τ : Style} {l : Line} {field : ℕ} {page after : Page} → τ ≡ Straight → l ≡ line_in a e → field ≡ last_field l.kind →
+    Grown page (written (line_shape Straight) (l.later ∷ l.earlier ∷ field ∷ [])) after → Grown page (line_bytes τ s xs a e) after
 unfolding line_bytes
-straight-stored xs a s e t is m h = rw t (rw (m, is) at h)
+straight-put xs a s e t is m h = rw t (rw (m, is) at h)
 
 -- It has its size.
 pub length-bytes : (τ : Style) (s : ℕ) (xs : List ℕ) (a : Arrays) (e : ℕ) → length (line_bytes τ s xs a e) ≡ line_size τ
@@ -38,20 +39,21 @@ unfolding line_bytes
 length-bytes τ s xs a e = length-line τ s (line_in a e) (bend_at xs a (line_in a e))
 
 -- The numbers that are written are the point's record.
-pub point-stored : (s : ℕ) (xs ys : List ℕ) (i : ℕ) {x y at : ℕ} {l l' : List ℕ} → x ≡ s * get_or xs i 0 → y ≡ s * get_or ys i 0 →
-    Stored l at (written point_place (x ∷ y ∷ [])) l' → Stored l at (point_bytes s xs ys i) l'
-point-stored s xs ys i x y h = rw (x, y) at h
+pub point-put : (s : ℕ) (xs ys : List ℕ) (i : ℕ) {x y : ℕ} {page after : Page} → x ≡ s * get_or xs i 0 → y ≡ s * get_or ys i 0 →
+    Grown page (written point_place (x ∷ y ∷ [])) after → Grown page (point_bytes s xs ys i) after
+point-put s xs ys i x y h = rw (x, y) at h
+
+-- Where the records of points and of lines end.
+pub points_end : (s : ℕ) (xs ys : List ℕ) (k : ℕ) {page after : Page} → Grown page (several (point_bytes s xs ys) k) after → after.at ≡ page.at + place_size * k
+points_end s xs ys k p = omega (arith, p.at, length-several (point_bytes s xs ys) place_size (λ i. refl) k)
+
+pub lines_end : (τ : Style) (s : ℕ) (xs : List ℕ) (a : Arrays) (k : ℕ) {page after : Page} → Grown page (several (line_bytes τ s xs a) k) after → after.at ≡ page.at + line_size τ * k
+lines_end τ s xs a k p = omega (arith, p.at, length-several (line_bytes τ s xs a) (line_size τ) (length-bytes τ s xs a) k)
 
 -- The header, the points, the lines and the end mark, one behind the other, are the file.
-pub file-stored : (xs : List ℕ) (a : Arrays) (c : Counts) {mark width top height p₁ p₂ p₃ p₄ : ℕ} {l₀ l₁ l₂ l₃ l₄ : List ℕ} → mark ≡ drawing_mark c.style →
-    width ≡ c.s * get_or xs 1 0 → top ≡ highest (take c.k a.ys) → height ≡ c.s * top → Pasted l₀ 0 (mark ∷ c.n ∷ c.s ∷ width ∷ height ∷ []) l₁ p₁ →
-    Stored l₁ p₁ (several (point_bytes c.s xs a.ys) c.k) l₂ → p₂ ≡ p₁ + place_size * c.k →
-    Stored l₂ p₂ (several (line_bytes c.style c.s xs a) c.lines) l₃ → p₃ ≡ p₂ + line_size c.style * c.lines → Pasted l₃ p₃ (end_mark ∷ []) l₄ p₄ →
-    Stored l₀ 0 (file_bytes xs a c) l₄
+pub file-put : (xs : List ℕ) (a : Arrays) (c : Counts) {mark width top height : ℕ} {p₀ p₁ p₂ p₃ p₄ : Page} → mark ≡ drawing_mark c.style →
+    width ≡ c.s * get_or xs 1 0 → top ≡ highest (take c.k a.ys) → height ≡ c.s * top → Grown p₀ (bytes_of (mark ∷ c.n ∷ c.s ∷ width ∷ height ∷ [])) p₁ →
+    Grown p₁ (several (point_bytes c.s xs a.ys) c.k) p₂ → Grown p₂ (several (line_bytes c.style c.s xs a) c.lines) p₃ → Grown p₃ (bytes_of (end_mark ∷ [])) p₄ →
+    Grown p₀ (file_bytes xs a c) p₄
 unfolding file_bytes
-file-stored xs a c m w t h head points after_points lines after_lines end =
-    let p = length-several (point_bytes c.s xs a.ys) place_size (λ i. refl) c.k in
-    let l = length-several (line_bytes c.style c.s xs a) (line_size c.style) (length-bytes c.style c.s xs a) c.lines in
-    behind head.behind (rw (m, w, h, t) at head.is)
-    (behind (omega (arith, p, after_points)) points
-    (behind (omega (arith, l, after_lines)) lines end.is))
+file-put xs a c m w t h head points lines end = grown_both (rw (m, w, h, t) at head) (grown_both points (grown_both lines end))

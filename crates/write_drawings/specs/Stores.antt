@@ -1,7 +1,8 @@
--- Records of one size stored into a buffer, one behind the other.
-use Rattle.std.specs.Prelude.{ℕ, zero, suc, ◌+◌, ◌*◌, ◌≡◌, List, length}
-use Rattle.std.proofs.Common.{ap, sym, ◌∙◌, arith, add-one, length-append}
-use Rattle.words.specs.Writing.{Stored, stored_none, behind}
+-- Records of one size put into a page, one behind the other.
+use Rattle.std.specs.Prelude.{ℕ, zero, suc, ◌+◌, ◌*◌, ◌≤◌, ◌≡◌, List, length}
+use Rattle.std.proofs.Common.{arith, add-one, length-append}
+use Rattle.pages.specs.declared.Page.{Page}
+use Rattle.pages.specs.Pages.{Grown, grown_none, grown_both}
 use Rattle.write_drawings.specs.Lists.{several}
 
 -- Records of `size` bytes each.
@@ -10,13 +11,12 @@ unfolding several
 length-several f size h zero = omega arith
 length-several f size h (suc n) = rw (length-append (several f n) (f n), length-several f size h n, h n) (omega arith)
 
--- Before the first record nothing is stored.
-pub none_stored : (f : ℕ → List ℕ) (l : List ℕ) (at : ℕ) → Stored l at (several f 0) l
+-- Before the first record nothing is put.
+pub none_put : (f : ℕ → List ℕ) (page : Page) → page.at ≤ length page.bytes.now → Grown page (several f 0) page
 unfolding several
-none_stored f l at = stored_none l at
+none_put f page h = grown_none page h
 
 -- One record more behind i records.
-pub record_behind : (f : ℕ → List ℕ) (size i : ℕ) {at to : ℕ} {l₀ l l' : List ℕ} → ((j : ℕ) → length (f j) ≡ size) → to ≡ at + size * i →
-    Stored l₀ at (several f i) l → Stored l to (f i) l' → Stored l₀ at (several f (i + 1)) l'
+pub record_more : (f : ℕ → List ℕ) (i : ℕ) {page middle after : Page} → Grown page (several f i) middle → Grown middle (f i) after → Grown page (several f (i + 1)) after
 unfolding several
-record_behind f size i {at} h p g e = rw add-one (behind (p ∙ ap (λ (n : ℕ). at + n) (sym (length-several f size h i))) g e)
+record_more f i g e = rw add-one (grown_both g e)

@@ -2,17 +2,17 @@
 // For `write_files`: it asks for a finished drawing and room in the buffer, which are tested there.
 #![tactic(auto)]
 
-ghost use Rattle.std.specs.Prelude.{◌≡◌, ◌+◌, ◌*◌, ◌<◌};
+ghost use Rattle.std.specs.Prelude.{◌≡◌, ◌*◌, ◌<◌};
 ghost use Rattle.rules.specs.Points.{Drawing};
 ghost use Rattle.rules.specs.Refusals.{good};
-ghost use Rattle.rules.specs.Records.{place_size, line_size};
 ghost use Rattle.rules.specs.DrawingFile.{highest, drawing_bytes};
 ghost use Rattle.rules.specs.Output.{filled};
 ghost use Rattle.store_tables.specs.Tables.{arrays_in};
 ghost use Rattle.write_drawings.specs.Lists.{several, point_bytes, line_bytes};
-ghost use Rattle.words.specs.Writing.{Stored};
+ghost use Rattle.pages.specs.Pages.{Grown};
 ghost use Rattle.write_drawings.specs.Finished.{Finished, Writable, PointsReady, LineReady, LinesReady};
 
+use pages::Page;
 use rules::{LINE_MARK, PLACE_MARK, Style};
 use store_lines::line_in;
 use store_links::Counts;
@@ -20,7 +20,7 @@ use store_settling::bend_of;
 use store_tables::{POINTS, Table};
 use styles::drawing_mark;
 use words::last_field;
-use write_records::{put_end, put_words};
+use write_records::put_end;
 
 // A length or coordinate, as it is written: times s.
 fn scaled(s: usize, v: u16) -> u16
@@ -41,38 +41,20 @@ fn largest(ys: &[u16]) -> u16
     top
 }
 
-// The records of the first k points, from the place `at` on. Returns the place behind them.
-fn write_points(
-    out: &mut [u8],
-    at: usize,
-    x: &[u16; POINTS],
-    ys: &[u16],
-    s: usize,
-    k: usize,
-) -> usize
-    requires { PointsReady x.now ys.now s k at out.old }
-    ensures stored { Stored out.old at (several (point_bytes s x.now ys.now) k) out.new }
-    ensures behind { result ≡ at + place_size * k }
+// Puts the records of the first k points behind what stands in the page.
+fn write_points(page: &mut Page<'_>, x: &[u16; POINTS], ys: &[u16], s: usize, k: usize)
+    requires { PointsReady x.now ys.now s k page.old.at page.old.bytes.now }
+    ensures { Grown page.old (several (point_bytes s x.now ys.now) k) page.new }
 {
-    let mut end = at;
     for i in 0..k {
-        end = put_words(out, end, &[PLACE_MARK, scaled(s, x[i]), scaled(s, ys[i])]);
+        page.words(&[PLACE_MARK, scaled(s, x[i]), scaled(s, ys[i])]);
     }
-    end
 }
 
-// The record of line e, from what the table holds of it. Returns the place behind it.
-fn write_line(
-    out: &mut [u8],
-    at: usize,
-    x: &[u16; POINTS],
-    table: &Table,
-    c: Counts,
-    e: usize,
-) -> usize
-    requires { LineReady c.style x.now (arrays_in table.now) c.s e at out.old }
-    ensures stored { Stored out.old at (line_bytes c.style c.s x.now (arrays_in table.now) e) out.new }
-    ensures behind { result ≡ at + line_size c.style }
+// Puts the record of line e there, from what the table holds of it.
+fn write_line(page: &mut Page<'_>, x: &[u16; POINTS], table: &Table, c: Counts, e: usize)
+    requires { LineReady c.style x.now (arrays_in table.now) c.s e page.old.at page.old.bytes.now }
+    ensures { Grown page.old (line_bytes c.style c.s x.now (arrays_in table.now) e) page.new }
 {
     let l = line_in(table, e);
     let field = last_field(l.kind);
@@ -87,27 +69,20 @@ fn write_line(
             );
             let bend_x = scaled(c.s, bend.x);
             let bend_y = scaled(c.s, bend.y);
-            put_words(
-                out,
-                at,
-                &[LINE_MARK, l.later, l.earlier, bend_x, bend_y, field],
-            )
+            page.words(&[LINE_MARK, l.later, l.earlier, bend_x, bend_y, field]);
         }
-        Style::Straight => put_words(out, at, &[LINE_MARK, l.later, l.earlier, field]),
+        Style::Straight => page.words(&[LINE_MARK, l.later, l.earlier, field]),
     }
 }
 
-// The records of all lines, from the place `at` on. Returns the place behind them.
-fn write_lines(out: &mut [u8], at: usize, x: &[u16; POINTS], table: &Table, c: Counts) -> usize
-    requires { LinesReady c.style x.now (arrays_in table.now) c.s c.lines at out.old }
-    ensures stored { Stored out.old at (several (line_bytes c.style c.s x.now (arrays_in table.now)) c.lines) out.new }
-    ensures behind { result ≡ at + line_size c.style * c.lines }
+// Puts the records of all lines there.
+fn write_lines(page: &mut Page<'_>, x: &[u16; POINTS], table: &Table, c: Counts)
+    requires { LinesReady c.style x.now (arrays_in table.now) c.s c.lines page.old.at page.old.bytes.now }
+    ensures { Grown page.old (several (line_bytes c.style c.s x.now (arrays_in table.now)) c.lines) page.new }
 {
-    let mut end = at;
     for e in 0..c.lines {
-        end = write_line(out, end, x, table, c, e);
+        write_line(page, x, table, c, e);
     }
-    end
 }
 
 // The drawing file of the finished drawing that the table holds, whose x are settled: into the start of the buffer.
@@ -119,8 +94,9 @@ pub fn write_drawing(out: &mut [u8], x: &[u16; POINTS], table: &Table, c: Counts
     let width = scaled(c.s, x[1]);
     let height = scaled(c.s, largest(&table.ys[..c.k]));
     let header = [drawing_mark(c.style), c.n as u16, c.s as u16, width, height];
-    let points = put_words(out, 0, &header);
-    let lines = write_points(out, points, x, &table.ys, c.s, c.k);
-    let end = write_lines(out, lines, x, table, c);
-    put_end(out, end);
+    let mut page = Page::new(out);
+    page.words(&header);
+    write_points(&mut page, x, &table.ys, c.s, c.k);
+    write_lines(&mut page, x, table, c);
+    put_end(&mut page);
 }

@@ -1,5 +1,5 @@
 -- From the stored lines of a finished drawing to the parts of its order file, and back.
-use Prim.Native.Nat.{ℕ, ◌+◌, ◌*◌, ◌<◌, ◌≤◌}
+use Prim.Native.Nat.{ℕ, ◌+◌, ◌*◌, ◌≤◌}
 use mathlib.Core.Path.{◌≡◌, ap, sym, ◌∙◌}
 use mathlib.Core.List.{List, [], ◌∷◌, ◌++◌}
 use native.Mathlib.Omega.{arith}
@@ -15,7 +15,8 @@ use Rattle.promise.proofs.Bounds.{lines_most}
 use Rattle.exchange.specs.Built.{Whole}
 use Rattle.exchange.specs.Replay.{replayed}
 use Rattle.rules.specs.Records.{bytes_of, end_mark}
-use Rattle.words.specs.Writing.{Pasted, pasted_both, length-stored, stored-filled}
+use Rattle.pages.specs.declared.Page.{Page}
+use Rattle.pages.specs.Pages.{Grown, pasted, page_filled}
 use Rattle.write_orders.specs.Writing.{head_words, points_words, order_words, OrderWritable, OrderWritten}
 use Rattle.write_orders.specs.Grouping.{order_is}
 
@@ -42,24 +43,11 @@ parts {a = a} {c} h =
       room = omega (arith, h.room, length-order w t, length-append (head_words c.n c.s) (points ++ (end_mark ∷ [])), length-append points (end_mark ∷ []));
     }
 
--- the points' records have room behind the header
-pub points-room : {out : List ℕ} {a : Arrays} {c : Counts} {out' : List ℕ} {at : ℕ} → Parts out a c → Pasted out 0 (head_words c.n c.s) out' at →
-    at + 2 * length (points_words a.words a.later c.lines c.n 1 0) ≤ length out'
-points-room h p = omega (arith, h.room, p.behind, length-stored p.is)
-
--- and the end behind them
-pub end-room : {out : List ℕ} {a : Arrays} {c : Counts} {out' out'' : List ℕ} {at end : ℕ} → Parts out a c → Pasted out 0 (head_words c.n c.s) out' at →
-    Pasted out' at (points_words a.words a.later c.lines c.n 1 0) out'' end → end + 1 < length out''
-end-room h p q = omega (arith, h.room, p.behind, length-stored p.is, q.behind, length-stored q.is)
-
 -- the three, one behind the other, are the order file of every finished drawing that is stored so
-pub order-written : {out : List ℕ} {a : Arrays} {c : Counts} {out' out'' out''' : List ℕ} {at end r : ℕ} → OrderWritable out a c → Pasted out 0 (head_words c.n c.s) out' at →
-    Pasted out' at (points_words a.words a.later c.lines c.n 1 0) out'' end → Pasted out'' end (end_mark ∷ []) out''' r → (d : Drawing) → Whole d → Stores d a c → OrderWritten d out out''' r
-order-written {out} {a} {c} {out''' = out'''} {r = r} h head points end d w t =
-    let all : Pasted out 0 (order_words a.words a.later c) out''' r = pasted_both head (pasted_both points end) in
-    let ws = order_words a.words a.later c in
-    let room : length (bytes_of ws) ≤ length out = omega (arith, h.room, length-order h.whole h.stored, length-bytes ws) in
+pub order-written : {first last : Page} {out : List ℕ} {a : Arrays} {c : Counts} {after : List ℕ} → first.at ≡ 0 → first.bytes.now ≡ out → Grown first (bytes_of (order_words a.words a.later c)) last →
+    after ≡ last.bytes.now → (d : Drawing) → Whole d → Stores d a c → OrderWritten d out after last.at
+order-written {out = out} {a} {c} {after} z b p e d w t =
     record {
-      size = omega (arith, all.behind, length-order w t);
-      bytes = stored-filled room all.is ∙ ap (λ (l : List ℕ). filled out (good l)) (order_is w t);
+      size = omega (arith, z, (pasted (order_words a.words a.later c) p).behind, length-order w t);
+      bytes = page_filled z b p e ∙ ap (λ (l : List ℕ). filled out (good l)) (order_is w t);
     }

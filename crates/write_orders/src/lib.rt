@@ -6,13 +6,14 @@ ghost use Rattle.std.specs.Prelude.{◌≡◌, ◌∷◌, map, eqb, ◌+◌, ◌
 ghost use Rattle.std.specs.List.{prefix_len};
 ghost use Rattle.rules.specs.Points.{Drawing};
 ghost use Rattle.rules.specs.OrderFile.{write_order, longest_order};
-ghost use Rattle.rules.specs.Records.{entries_mark};
+ghost use Rattle.rules.specs.Records.{bytes_of, entries_mark};
 ghost use Rattle.store_links.specs.Arrays.{Stores};
 ghost use Rattle.store_tables.specs.Tables.{arrays_in};
 ghost use Rattle.exchange.specs.Built.{Whole};
-ghost use Rattle.words.specs.Writing.{Pasted};
+ghost use Rattle.pages.specs.Pages.{HasRoom, Grown};
 ghost use Rattle.write_orders.specs.Writing.{again, points_words, head_words, OrderWritable, OrderWritten};
 
+use pages::Page;
 use rules::{ENTRIES_MARK, NUMBER_SIZE, ORDER_MARK, SCALE_MARK};
 use store_links::Counts;
 use store_tables::Table;
@@ -32,51 +33,39 @@ fn count_lines(later: &[u16], p: usize) -> usize
     later.iter().take_while(|&&q| usize::from(q) == p).count()
 }
 
-// Writes the record of a point whose lines have these entries. Returns the place behind it.
-fn put_point(out: &mut [u8], at: usize, words: &[u16]) -> usize
-    requires { (length words.now < 65536) × (at + 4 + 2 * length words.now ≤ length out.old) }
-    ensures { Pasted out.old at (entries_mark ∷ length words.now ∷ map again words.now) out.new result }
+// Puts the record of a point whose lines have these entries behind what stands in the page.
+fn put_point(page: &mut Page<'_>, words: &[u16])
+    requires { (length words.now < 65536) × HasRoom page.old (4 + 2 * length words.now) }
+    ensures { Grown page.old (bytes_of (entries_mark ∷ length words.now ∷ map again words.now)) page.new }
 {
-    let mut end = put_two(out, at, ENTRIES_MARK, words.len());
+    put_two(page, ENTRIES_MARK, words.len());
     for &w in words {
-        words::put_word(out, end, joined(w));
-        end += 2;
+        page.word(joined(w));
     }
-    end
 }
 
-// Writes the records of points 1 to n in turn, each with the lines that are its own. Returns the place behind them.
-fn put_points(
-    out: &mut [u8],
-    at: usize,
-    words: &[u16],
-    later: &[u16],
-    n: usize,
-    lines: usize,
-) -> usize
-    requires { (length words.now ≡ 3072) × (length later.now ≡ 3072) × (n ≤ 1024) × (lines ≤ 3072) × (at + 2 * length (points_words words.now later.now lines n 1 0) ≤ length out.old) }
-    ensures { Pasted out.old at (points_words words.now later.now lines n 1 0) out.new result }
+// Puts the records of points 1 to n there in turn, each with the lines that are its own.
+fn put_points(page: &mut Page<'_>, words: &[u16], later: &[u16], n: usize, lines: usize)
+    requires { (length words.now ≡ 3072) × (length later.now ≡ 3072) × (n ≤ 1024) × (lines ≤ 3072) × HasRoom page.old (2 * length (points_words words.now later.now lines n 1 0)) }
+    ensures { Grown page.old (bytes_of (points_words words.now later.now lines n 1 0)) page.new }
 {
-    let mut end = at;
     let mut from = 0;
     for p in 1..=n {
         let count = count_lines(&later[from..lines], p);
-        end = put_point(out, end, &words[from..from + count]);
+        put_point(page, &words[from..from + count]);
         from += count;
     }
-    end
 }
 
-// Writes the header, and the scale where it isn't 1. Returns the place behind them.
-fn put_head(out: &mut [u8], n: usize, s: usize) -> usize
-    requires { (n ≤ 1024) × (s ≤ 8) × (2 * length (head_words n s) ≤ length out.old) }
-    ensures { Pasted out.old 0 (head_words n s) out.new result }
+// Puts the header there, and the scale where it isn't 1.
+fn put_head(page: &mut Page<'_>, n: usize, s: usize)
+    requires { (n ≤ 1024) × (s ≤ 8) × HasRoom page.old (2 * length (head_words n s)) }
+    ensures { Grown page.old (bytes_of (head_words n s)) page.new }
 {
-    let end = put_two(out, 0, ORDER_MARK, n);
-    if s == 1 {
-        return end;
+    put_two(page, ORDER_MARK, n);
+    if s != 1 {
+        put_two(page, SCALE_MARK, s);
     }
-    put_two(out, end, SCALE_MARK, s)
 }
 
 // Writes the order file of the finished drawing that the table holds. Returns the number of bytes.
@@ -84,9 +73,11 @@ pub fn write_order(out: &mut [u8], table: &Table, c: Counts) -> usize
     requires { OrderWritable out.old (arrays_in table.now) c }
     ensures { (d : Drawing) → Whole d → Stores d (arrays_in table.now) c → OrderWritten d out.old out.new result }
 {
-    let points = put_head(out, c.n, c.s);
-    let end = put_points(out, points, &table.words, &table.later, c.n, c.lines);
-    put_end(out, end)
+    let mut page = Page::new(out);
+    put_head(&mut page, c.n, c.s);
+    put_points(&mut page, &table.words, &table.later, c.n, c.lines);
+    put_end(&mut page);
+    page.at
 }
 
 // How many bytes the order file of a finished drawing with these numbers has.

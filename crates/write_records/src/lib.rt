@@ -1,38 +1,25 @@
-// Records of both files, written number by number, for the writers: they ask for room in the buffer, which is tested above.
+// Records of both files, for the writers: they ask for room in the page, which is tested above.
 #![tactic(auto)]
 
-ghost use Rattle.std.specs.Prelude.{[], ◌∷◌, ◌+◌, ◌*◌, ◌<◌, ◌≤◌, length};
-ghost use Rattle.rules.specs.Records.{end_mark};
-ghost use Rattle.words.specs.Writing.{Pasted};
+ghost use Rattle.std.specs.Prelude.{[], ◌∷◌, ◌<◌};
+ghost use Rattle.rules.specs.Records.{bytes_of, end_mark};
+ghost use Rattle.pages.specs.Pages.{HasRoom, Grown};
 
+use pages::Page;
 use rules::END_MARK;
-use words::put_word;
 
-// Writes these numbers, one behind the other. Returns the place behind them.
-pub fn put_words(out: &mut [u8], at: usize, ws: &[u16]) -> usize
-    requires { at + 2 * length ws.now ≤ length out.old }
-    ensures { Pasted out.old at ws.now out.new result }
+// A mark and a number behind it, of an order file.
+pub fn put_two(page: &mut Page<'_>, mark: u16, v: usize)
+    requires { (v < 65536) × HasRoom page.old 4 }
+    ensures { Grown page.old (bytes_of (mark ∷ v ∷ [])) page.new }
 {
-    let mut end = at;
-    for &w in ws {
-        put_word(out, end, w);
-        end += 2;
-    }
-    end
+    page.words(&[mark, v as u16]);
 }
 
-// A mark and a number behind it, of an order file. Returns the place behind both.
-pub fn put_two(out: &mut [u8], at: usize, mark: u16, v: usize) -> usize
-    requires { (v < 65536) × (at + 3 < length out.old) }
-    ensures { Pasted out.old at (mark ∷ v ∷ []) out.new result }
+// The end record, of both.
+pub fn put_end(page: &mut Page<'_>)
+    requires { HasRoom page.old 2 }
+    ensures { Grown page.old (bytes_of (end_mark ∷ [])) page.new }
 {
-    put_words(out, at, &[mark, v as u16])
-}
-
-// The end record, of both. Returns the place behind it.
-pub fn put_end(out: &mut [u8], at: usize) -> usize
-    requires { at + 1 < length out.old }
-    ensures { Pasted out.old at (end_mark ∷ []) out.new result }
-{
-    put_words(out, at, &[END_MARK])
+    page.word(END_MARK);
 }

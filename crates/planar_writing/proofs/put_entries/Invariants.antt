@@ -1,6 +1,9 @@
--- `planar_writing::put_entries` meets its contract: the entries before the next are written, the others are ahead.
-use Rattle.planar_writing.proofs.Turns.{Entering}
+-- `planar_writing::put_entries` meets its contract: the numbers of the entries before this one are put.
+use Rattle.std.specs.Prelude.{take}
+use Rattle.rules.specs.Records.{bytes_of}
+use Rattle.pages.specs.Pages.{Grown}
+use Rattle.planar_writing.specs.Words.{numbers_of}
 use Rattle.planar_writing.proofs.put_entries.Given as goal
 
 abbrev pub invariant-loop-v : goal.invariant-loop-v
-invariant-loop-v l = Entering l.initial.out l.at l.by_point l.entries l.out l.place l.v-index
+invariant-loop-v l = Grown l.initial.page (bytes_of (numbers_of l.by_point (take l.v-index l.entries))) l.page

@@ -1,7 +1,7 @@
 -- `printing_import::put_vertices`: after i vertices their lines stand in the page.
 use Rattle.std.proofs.Common.{◌*◌, ◌≤◌, take}
 use Rattle.planar_rules.specs.Programs.{vertex_lines}
-use Rattle.printing_line.specs.Pages.{Grown}
+use Rattle.pages.specs.Pages.{Grown}
 use Rattle.printing_import.specs.Lines.{vertex_most}
 use Rattle.printing_import.proofs.put_vertices.Given as goal
 

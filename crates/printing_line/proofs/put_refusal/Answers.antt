@@ -4,4 +4,4 @@ use Rattle.printing_line.specs.Pages.{printed}
 use Rattle.printing_line.proofs.put_refusal.Goals as goal
 
 pub returns : goal.returns
-returns c = printed c.new-line.ensures.at c.new-line.ensures.bytes c.refusal.ensures (search rules)
+returns c = printed c.new-line.ensures.at c.new-line.ensures.bytes c.put_line.ensures (search rules)

@@ -2,7 +2,8 @@
 use Rattle.std.proofs.Common.{◌≡◌, ◌*◌, List, length, take}
 use Rattle.rules.specs.Moves.{Move}
 use Rattle.rules.specs.MoveLines.{move_lines}
-use Rattle.printing_line.specs.Pages.{Grown, Within}
+use Rattle.pages.specs.Pages.{Grown}
+use Rattle.printing_line.specs.Pages.{Within}
 use Rattle.printing_move.specs.Lines.{move_most, Held}
 use Rattle.printing_move.proofs.put_moves.Given as goal
 

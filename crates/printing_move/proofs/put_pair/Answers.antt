@@ -1,5 +1,5 @@
 -- `printing_move::put_pair` meets its contract: two numbers with a blank between them, and the line's end.
-use Rattle.printing_line.specs.Pages.{grown_both}
+use Rattle.pages.specs.Pages.{grown_both}
 use Rattle.printing_move.proofs.put_pair.Goals as goal
 
 pub returns-clause-exact : goal.returns-clause-exact

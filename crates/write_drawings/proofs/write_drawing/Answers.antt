@@ -1,10 +1,10 @@
 -- `write_drawing`: header, points, lines and end mark, one behind the other, are the drawing file.
-use Rattle.std.proofs.Common.{arith, sym, length-take-le}
+use Rattle.std.proofs.Common.{length, ap, arith, rules, sym, length-take-le}
 use Rattle.store_tables.specs.Tables.{arrays_in}
-use Rattle.words.specs.Writing.{stored-filled}
+use Rattle.pages.specs.Pages.{page_filled}
 use Rattle.write_drawings.specs.Files.{file_is}
-use Rattle.write_drawings.specs.Fitting.{ready, has_room, points-ready, lines-ready}
-use Rattle.write_drawings.proofs.Written.{file-stored}
+use Rattle.write_drawings.specs.Fitting.{ready, points-ready, lines-ready}
+use Rattle.write_drawings.proofs.Written.{points_end, lines_end, file-put}
 use Rattle.write_drawings.proofs.write_drawing.Goals as goal
 
 pub scaled-width-requires : goal.scaled-width-requires
@@ -22,25 +22,30 @@ overflow_cast-header c = let h = c.requires.finished.holds in omega (arith, h.st
 pub overflow_cast-header-2 : goal.overflow_cast-header-2
 overflow_cast-header-2 c = let h = c.requires.finished in omega (arith, h.holds.stores.s, h.scale.1)
 
-pub put_words-points-requires : goal.put_words-points-requires
-put_words-points-requires c = omega (arith, (ready c.requires).room)
+pub words-requires : goal.words-requires
+words-requires c = omega (arith, c.new-page.ensures.at, ap length c.new-page.ensures.bytes, (ready c.requires).room)
 
-pub write_points-lines-requires : goal.write_points-lines-requires
-write_points-lines-requires c =
-    points-ready c.requires.finished _ _ (omega (arith, c.put_words-points.auto.out, c.put_words-points.ensures.behind, (ready c.requires).room))
+pub write_points-requires : goal.write_points-requires
+write_points-requires c =
+    points-ready c.requires.finished _ _ (omega (arith, c.new-page.ensures.at, ap length c.new-page.ensures.bytes, c.words.ensures.at, c.words.ensures.size, (ready c.requires).room))
 
-pub write_lines-end-requires : goal.write_lines-end-requires
-write_lines-end-requires c =
-    lines-ready c.requires.finished _ _ (omega (arith, c.put_words-points.auto.out, c.put_words-points.ensures.behind, c.write_points-lines.auto.out, c.write_points-lines.ensures.behind, (ready c.requires).room))
+pub write_lines-requires : goal.write_lines-requires
+write_lines-requires c =
+    let a = c.args in
+    let points = c.write_points.ensures in
+    lines-ready c.requires.finished _ _ (omega (arith, c.new-page.ensures.at, ap length c.new-page.ensures.bytes, c.words.ensures.at, c.words.ensures.size, points.size, points_end a.c.s a.x.now a.table.now.ys a.c.k points, (ready c.requires).room))
 
 pub put_end-requires : goal.put_end-requires
 put_end-requires c =
-    omega (arith, c.put_words-points.auto.out, c.put_words-points.ensures.behind, c.write_points-lines.auto.out, c.write_points-lines.ensures.behind, c.write_lines-end.auto.out, c.write_lines-end.ensures.behind, (ready c.requires).room)
+    let a = c.args in
+    let points = c.write_points.ensures in
+    let lines = c.write_lines.ensures in
+    omega (arith, c.new-page.ensures.at, ap length c.new-page.ensures.bytes, c.words.ensures.at, c.words.ensures.size, points.size, points_end a.c.s a.x.now a.table.now.ys a.c.k points, lines.size, lines_end a.c.style a.c.s a.x.now (arrays_in a.table.now) a.c.lines lines, (ready c.requires).room)
 
 pub returns : goal.returns
 returns c = λ d f.
     let a = c.args in
     let all =
-    file-stored a.x.now (arrays_in a.table.now) a.c c.drawing_mark.ensures c.scaled-width.ensures c.largest.ensures c.scaled-height.ensures
-    c.put_words-points.ensures c.write_points-lines.ensures.stored c.write_points-lines.ensures.behind c.write_lines-end.ensures.stored c.write_lines-end.ensures.behind c.put_end.ensures in
-    stored-filled (has_room c.requires f) (rw (file_is f) at all)
+    file-put a.x.now (arrays_in a.table.now) a.c c.drawing_mark.ensures c.scaled-width.ensures c.largest.ensures c.scaled-height.ensures
+    c.words.ensures c.write_points.ensures c.write_lines.ensures c.put_end.ensures in
+    page_filled c.new-page.ensures.at c.new-page.ensures.bytes (rw (file_is f) at all) (search rules)

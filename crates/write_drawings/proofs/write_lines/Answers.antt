@@ -1,20 +1,25 @@
 -- `write_lines`: one record more.
-use Rattle.std.proofs.Common.{arith}
+use Rattle.std.proofs.Common.{◌+◌, ◌*◌, ◌≤◌, arith, mul-le-mul}
 use Rattle.rules.specs.Records.{line_size}
 use Rattle.store_tables.specs.Tables.{arrays_in}
-use Rattle.write_drawings.specs.Lists.{line_bytes}
-use Rattle.write_drawings.specs.Stores.{none_stored, record_behind}
-use Rattle.write_drawings.proofs.Written.{length-bytes}
+use Rattle.write_drawings.specs.Stores.{none_put, record_more}
+use Rattle.write_drawings.proofs.Written.{lines_end}
 use Rattle.write_drawings.proofs.write_lines.Goals as goal
 
 pub loop-e-init : goal.loop-e-init
-loop-e-init c = (omega arith, none_stored _ _ _)
+loop-e-init c = none_put _ _ (omega (arith, c.requires.room))
+
+pub write_line-requires : goal.write_line-requires
+write_line-requires c =
+    let a = c.args in
+    let e = c.loop-e.e in
+    let before = c.loop-e.invariant in
+    let up : line_size a.c.style * (e + 1) ≤ line_size a.c.style * a.c.lines = mul-le-mul (omega arith) (omega arith) in
+    record {
+      line = omega (arith, c.requires.few);
+      fits = c.requires.fits e (omega arith);
+      room = omega (arith, up, c.requires.room, before.size, lines_end a.c.style a.c.s a.x.now (arrays_in a.table.now) e before);
+    }
 
 pub loop-e-preserved : goal.loop-e-preserved
-loop-e-preserved c =
-    let a = c.args in
-    let t = arrays_in a.table.now in (
-      omega (arith, c.write_line-end.ensures.behind, c.loop-e.invariant.0),
-      record_behind (line_bytes a.c.style a.c.s a.x.now t) (line_size a.c.style) c.loop-e.e (length-bytes a.c.style a.c.s a.x.now t) c.loop-e.invariant.0 c.loop-e.invariant.1
-          c.write_line-end.ensures.stored,
-    )
+loop-e-preserved c = record_more _ c.loop-e.e c.loop-e.invariant c.write_line.ensures

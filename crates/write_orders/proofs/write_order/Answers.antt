@@ -1,18 +1,41 @@
 -- `write_order`: head, points and end, one behind the other, are the order file.
-use native.Mathlib.Omega.{arith}
-use Rattle.write_orders.proofs.Finished.{parts, points-room, end-room, order-written}
+use Rattle.std.proofs.Common.{◌∷◌, [], length, ap, arith, rules}
+use Rattle.rules.specs.Records.{end_mark}
+use Rattle.pages.specs.Pages.{words_both, pasted}
+use Rattle.write_orders.specs.Writing.{head_words, points_words}
+use Rattle.write_orders.proofs.Finished.{parts, order-written}
 use Rattle.write_orders.proofs.write_order.Goals as goal
 
-pub put_head-points-requires : goal.put_head-points-requires
-put_head-points-requires c = let h = parts c.requires in (h.n, h.s, omega (arith, h.room))
+pub put_head-requires : goal.put_head-requires
+put_head-requires c = let h = parts c.requires in (h.n, h.s, omega (arith, h.room, c.new-page.ensures.at, ap length c.new-page.ensures.bytes))
 
-pub put_points-end-requires : goal.put_points-end-requires
-put_points-end-requires c =
+pub put_points-requires : goal.put_points-requires
+put_points-requires c =
     let h = parts c.requires in
-    (omega arith, omega arith, h.n, h.lines, points-room h c.put_head-points.ensures)
+    let head = c.put_head.ensures in
+    (omega arith, omega arith, h.n, h.lines, omega (arith, h.room, c.new-page.ensures.at, ap length c.new-page.ensures.bytes, (pasted (head_words c.args.c.n c.args.c.s) head).behind, head.size))
 
 pub put_end-requires : goal.put_end-requires
-put_end-requires c = end-room (parts c.requires) c.put_head-points.ensures c.put_points-end.ensures
+put_end-requires c =
+    let h = parts c.requires in
+    let t = c.args.table.now in
+    let head = c.put_head.ensures in
+    let points = c.put_points.ensures in
+    omega (
+      arith,
+      h.room,
+      c.new-page.ensures.at,
+      ap length c.new-page.ensures.bytes,
+      (pasted (head_words c.args.c.n c.args.c.s) head).behind,
+      head.size,
+      (pasted (points_words t.words t.later c.args.c.lines c.args.c.n 1 0) points).behind,
+      points.size,
+    )
 
 pub returns : goal.returns
-returns c = order-written c.requires c.put_head-points.ensures c.put_points-end.ensures c.put_end.ensures
+returns c =
+    let t = c.args.table.now in
+    let n = c.args.c in
+    let points = points_words t.words t.later n.lines n.n 1 0 in
+    order-written c.new-page.ensures.at c.new-page.ensures.bytes
+    (words_both (head_words n.n n.s) _ c.put_head.ensures (words_both points (end_mark ∷ []) c.put_points.ensures c.put_end.ensures)) (search rules)

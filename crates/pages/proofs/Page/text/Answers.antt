@@ -1,8 +1,8 @@
--- `printing_line::Page::text` meets its contract.
+-- `pages::Page::text` meets its contract.
 use Rattle.std.proofs.Common.{refl, arith}
 use Rattle.words.specs.Writing.{length-stored}
-use Rattle.printing_line.specs.Pages.{text_stored}
-use Rattle.printing_line.proofs.Page.text.Goals as goal
+use Rattle.pages.specs.Pages.{text_stored}
+use Rattle.pages.proofs.Page.text.Goals as goal
 
 pub returns : goal.returns
 returns c =
