@@ -9,7 +9,7 @@ ghost use Rattle.store_calls.specs.Storable.{Pushable, Storable};
 
 use rules::Line;
 use store_links::{Counts, Spot, line_of, new_bend};
-use store_points::{cover, grow_ports, link};
+use store_points::{cover, link};
 use store_tables::{Drawing, LINES};
 use styles::bent;
 use words::point_of;
@@ -40,8 +40,6 @@ pub fn store(d: &mut Drawing, e: &[u16], p: Spot, from: usize)
     let wl = point_of(e[0]);
     let wr = point_of(e[e.len() - 1]);
     cover(e, &mut d.table, p, new);
-    link(&mut d.table, v, wl, wr, p);
-    let rights = grow_ports(&mut d.table.drs, style, v, wl);
-    let lefts = grow_ports(&mut d.table.dls, style, v, wr);
+    let (rights, lefts) = link(&mut d.table, style, v, wl, wr, p);
     push_lines(e, &mut d.table.lines, d.counts, rights, lefts, from);
 }

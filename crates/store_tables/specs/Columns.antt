@@ -4,6 +4,7 @@ use Rattle.std.proofs.Common.{sym, ap, ◌∙◌, sub-one}
 use Rattle.std.proofs.Math.ListN.{get_or-map}
 use Rattle.std.proofs.lemmas.List.{map-set}
 use Rattle.store_links.specs.Arrays.{Arrays, at_point}
+use Rattle.store_links.specs.Storing.{put_at}
 use Rattle.store_tables.specs.declared.Point.{Point}
 use Rattle.store_tables.specs.declared.Table.{Table}
 use Rattle.store_tables.specs.Tables.{arrays_in, no_point}
@@ -21,17 +22,17 @@ point_at a p =
       h = at_point a.hs p;
     }
 
--- the arrays with the numbers of v at index i
-abbrev pub set_numbers : Arrays → ℕ → Point → Arrays
-set_numbers a i v =
+-- the arrays with v as point p
+abbrev pub put_point : Arrays → ℕ → Point → Arrays
+put_point a p v =
     record a {
-      next = set a.next i v.next;
-      gap = set a.gap i v.gap;
-      owner = set a.owner i v.owner;
-      ys = set a.ys i v.y;
-      dls = set a.dls i v.dl;
-      drs = set a.drs i v.dr;
-      hs = set a.hs i v.h;
+      next = put_at a.next p v.next;
+      gap = put_at a.gap p v.gap;
+      owner = put_at a.owner p v.owner;
+      ys = put_at a.ys p v.y;
+      dls = put_at a.dls p v.dl;
+      drs = put_at a.drs p v.dr;
+      hs = put_at a.hs p v.h;
     }
 
 -- A point is what the columns hold of it.
@@ -49,15 +50,17 @@ point_read t p =
       h = at (λ p. p.h) j;
     }
 
--- A point is stored as its numbers.
-pub point_stored : (t : Table) (i : ℕ) (v : Point) → arrays_in (record t { points = set t.points i v }) ≡ set_numbers (arrays_in t) i v
-point_stored t i v =
+-- A point that is stored gives its numbers to the columns.
+pub point_stored : (t : Table) (p : ℕ) (v : Point) → arrays_in (record t { points = set t.points (p - 1) v }) ≡ put_point (arrays_in t) p v
+point_stored t p v =
+    let at : (f : Point → ℕ) → map f (set t.points (p - 1) v) ≡ put_at (map f t.points) p (f v) =
+    λ f. map-set f t.points (p - 1) v ∙ ap (λ i. set (map f t.points) i (f v)) (sub-one p) in
     λ j. record (arrays_in t) {
-      next = map-set (λ (p : Point). p.next) t.points i v j;
-      gap = map-set (λ (p : Point). p.gap) t.points i v j;
-      owner = map-set (λ (p : Point). p.owner) t.points i v j;
-      ys = map-set (λ (p : Point). p.y) t.points i v j;
-      dls = map-set (λ (p : Point). p.dl) t.points i v j;
-      drs = map-set (λ (p : Point). p.dr) t.points i v j;
-      hs = map-set (λ (p : Point). p.h) t.points i v j;
+      next = at (λ p. p.next) j;
+      gap = at (λ p. p.gap) j;
+      owner = at (λ p. p.owner) j;
+      ys = at (λ p. p.y) j;
+      dls = at (λ p. p.dl) j;
+      drs = at (λ p. p.dr) j;
+      hs = at (λ p. p.h) j;
     }

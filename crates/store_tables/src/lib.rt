@@ -3,7 +3,7 @@
 
 ghost use Rattle.std.specs.Prelude.{◌≡◌, ◌<◌, ◌≤◌};
 ghost use Rattle.store_tables.specs.Tables.{arrays_in, zeros, blank};
-ghost use Rattle.store_tables.specs.Columns.{point_at};
+ghost use Rattle.store_tables.specs.Columns.{point_at, put_point};
 
 use rules::{Bend, Kind, Line, MOST_POINTS, Style};
 use store_links::Counts;
@@ -43,7 +43,7 @@ pub const NO_POINT: Point = Point {
     h: 0,
 };
 
-const NO_LINE: Line = Line {
+pub const NO_LINE: Line = Line {
     later: 0,
     earlier: 0,
     bend: Bend::NoBend,
@@ -68,6 +68,16 @@ impl Table {
         ensures { result ≡ point_at (arrays_in self.now) p }
     {
         self.points[p - 1]
+    }
+
+    // Point p, counted from 1, is stored.
+    #[tactic(auto, using(crate::specs::Columns::point_stored))]
+    pub fn put(&mut self, p: usize, point: Point)
+        requires { (0 < p) × (p ≤ 1024) }
+        ensures { arrays_in self.new ≡ put_point (arrays_in self.old) p point }
+    {
+        let i = p - 1;
+        self.points[i] = point;
     }
 }
 
