@@ -9,7 +9,8 @@ ghost use Rattle.store_settling.specs.Hang.{hang_by, HangsBy, hung, Hangs};
 ghost use Rattle.store_settling.specs.Placed.{Settleable, Settled};
 ghost use Rattle.store_settling.specs.Bends.{Bendable, bend_in};
 
-use rules::{Bend, Place};
+use rules::{Bend, Line, Place};
+use store_lines::{left_port, middle_port, right_port};
 use store_links::GAP_OFFSET;
 use store_tables::{Drawing, POINTS};
 
@@ -74,21 +75,21 @@ pub struct View<'a> {
 }
 
 // Where a line bends, from the places of now.
-pub fn bend_of(view: &View, later: usize, earlier: usize, b: Bend) -> Place
-    requires { Bendable view.now.x.now (arrays_in view.now.drawing.now.table) later earlier b }
-    ensures { result ≡ bend_in view.now.x.now (arrays_in view.now.drawing.now.table) later earlier b }
+pub fn bend_of(view: &View, l: Line) -> Place
+    requires { Bendable view.now.x.now (arrays_in view.now.drawing.now.table) l.later l.earlier l.bend }
+    ensures { result ≡ bend_in view.now.x.now (arrays_in view.now.drawing.now.table) l.later l.earlier l.bend }
 {
-    let x = view.x;
-    let table = &view.drawing.table;
-    let p = later - 1;
-    let q = earlier - 1;
-    match b {
-        Bend::Left(j) => store_lines::left_port(x[q], table.ys[q], table.dls[q], j),
-        Bend::Right(j) => store_lines::right_port(x[q], table.ys[q], table.drs[q], j),
-        Bend::Middle(i) => store_lines::middle_port(x[p], table.ys[p], table.hs[p], i),
-        Bend::NoBend => Place {
-            x: x[q],
-            y: table.ys[q],
-        },
+    let later = usize::from(l.later);
+    let earlier = usize::from(l.earlier);
+    let from = view.drawing.table.point(earlier);
+    let x = view.x[earlier - 1];
+    match l.bend {
+        Bend::NoBend => Place { x, y: from.y },
+        Bend::Left(j) => left_port(x, from.y, from.dl, j),
+        Bend::Right(j) => right_port(x, from.y, from.dr, j),
+        Bend::Middle(i) => {
+            let to = view.drawing.table.point(later);
+            middle_port(view.x[later - 1], to.y, to.h, i)
+        }
     }
 }
