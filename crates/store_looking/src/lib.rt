@@ -16,7 +16,7 @@ ghost use Rattle.store_looking.specs.Cuts.{cut_to, FirstCut};
 
 use answers::LineSeen;
 use rules::{Answer, Line, Place, Refusal, Style};
-use store_settling::View;
+use store_settling::{View, bend_of};
 use store_tables::{Drawing, POINTS};
 
 // The x of every placed point.
@@ -44,10 +44,9 @@ pub fn look_point(view: &View, p: usize) -> Answer<Place>
     if !is_point(view.drawing.counts.k, p) {
         return Err(Refusal::NoSuch.at(0));
     }
-    let i = p - 1;
     Ok(Place {
-        x: view.x[i],
-        y: view.drawing.table.ys[i],
+        x: view.x[p - 1],
+        y: view.drawing.table.point(p).y,
     })
 }
 
@@ -65,10 +64,7 @@ pub fn look_line(view: &View, e: usize) -> Answer<LineSeen>
     let Style::OneBend = style else {
         return Ok(LineSeen::Straight(l));
     };
-    let to = usize::from(l.later);
-    let from = usize::from(l.earlier);
-    let at = store_settling::bend_of(view, to, from, l.bend);
-    Ok(LineSeen::Bent(l, at))
+    Ok(LineSeen::Bent(l, bend_of(view, l)))
 }
 
 // A line is cut and ends at p.
