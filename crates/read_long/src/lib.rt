@@ -20,7 +20,7 @@ pub fn judge_long(entries: &Cursor, count: usize, d: &Drawing) -> Refusal
     }
     for i in 0..count {
         let e = word_at(entries.file, entries.at + 2 * i);
-        if let Err(refused) = judge_entry(e, &d.table.owner, d.counts.k, i) {
+        if let Err(refused) = judge_entry(e, d, i) {
             return refused.refusal;
         }
     }

@@ -1,5 +1,5 @@
 -- What is known of a call that passes the tests before 25, and how each outcome answers it.
-use Rattle.std.specs.Prelude.{ℕ, ◌+◌, ◌-◌, ◌/◌, ◌<◌, ◌≤◌, ◌≡◌, refl, Bool, true, false, not, List, map, length, Option, Some, None, Ok, Err}
+use Rattle.std.specs.Prelude.{ℕ, suc, ◌+◌, ◌-◌, ◌/◌, ◌<◌, ◌≤◌, ◌≡◌, refl, Bool, true, false, not, List, map, length, Option, Some, None, Ok, Err}
 use Rattle.std.proofs.Common.{sym, ap, ◌∙◌, subst, arith}
 use Rattle.rules.specs.declared.Style.{Style}
 use Rattle.rules.specs.declared.Style.TheVariants.{OneBend, Straight}
@@ -17,7 +17,7 @@ use Rattle.store_links.specs.Arrays.{Arrays, Sized, at_point}
 use Rattle.store_links.specs.Judging.{passes}
 use Rattle.store_links.specs.Placing.{entry_point, spot_of, change_from, all_reach_from, inner_count}
 use Rattle.store_links.specs.Runs.{Within, Distinct}
-use Rattle.store_links.specs.Storing.{code_of, spot_for, judged, with_point, with_counts}
+use Rattle.store_links.specs.Storing.{new_line, spot_for, judged, with_point, with_counts}
 use Rattle.store_tables.specs.declared.Drawing.{Drawing}
 use Rattle.store_tables.specs.Tables.{arrays_in}
 use Rattle.promise.specs.Accepted.{tests_passed}
@@ -147,16 +147,16 @@ refused-early d es f is =
     stays d es f (judged_by a d.counts es (refused f.refusal f.place) (refusing (tests a d.counts es) f is))
 
 -- Straight lines have no port, so they are stored alike wherever ports change.
-codes_alike : (τ : Style) → τ ≡ Straight → (rights lefts last f g : ℕ) → code_of τ rights lefts last f ≡ code_of τ rights lefts last g
-codes_alike OneBend b rights lefts last f g = absurd (let z : ◌≡◌ {A = ℕ} 0 1 = cc in omega arith)
-codes_alike Straight b rights lefts last f g = refl
+lines_alike : (τ : Style) → τ ≡ Straight → (v rights lefts f g : ℕ) (es : List ℕ) → new_line τ v rights lefts f es ≡ new_line τ v rights lefts g es
+lines_alike OneBend b v rights lefts f g es = absurd (let z : ◌≡◌ {A = ℕ} 0 1 = cc in omega arith)
+lines_alike Straight b v rights lefts f g es = refl
 
 stored-alike : (a : Arrays) (c : Counts) (es : List ℕ) (p : Spot) → c.style ≡ Straight → (f g : ℕ) → with_point a c es p f ≡ with_point a c es p g
 unfolding with_point
 stored-alike a c es p b f g =
     let rights = taken c.style (at_point a.drs (entry_point es 0)) in
     let lefts = taken c.style (at_point a.dls (entry_point es (length es - 1))) in
-    rw (codes_alike c.style b rights lefts (length es - 1) f g)
+    rw (lines_alike c.style b (suc c.k) rights lefts f g es)
 
 module _ (d : Drawing) (es : List ℕ) (o : Spot) (all_good : tests (arrays_in d.table) d.counts es ≡ good tt) (at : o ≡ spot_for d.counts.style (arrays_in d.table) es) where
   abbrev a : Arrays

@@ -4,7 +4,6 @@
 
 ghost use Rattle.std.specs.Prelude.{◌≡◌, ◌≤◌};
 ghost use Rattle.rules.specs.Basics.{between};
-ghost use Rattle.rules.specs.Readings.{entry_of};
 ghost use Rattle.rules.specs.Points.{Drawing as Plan};
 ghost use Rattle.rules.specs.Lookups.{look_point, look_line, LooksCut};
 ghost use Rattle.answers.specs.Told.{point_seen, line_seen, told_cut};
@@ -16,8 +15,8 @@ ghost use Rattle.store_looking.specs.Places.{Looks};
 ghost use Rattle.store_looking.specs.Cuts.{cut_to, FirstCut};
 
 use answers::LineSeen;
-use rules::{Answer, Place, Refusal, Style};
-use store_settling::View;
+use rules::{Answer, Line, Place, Refusal, Style};
+use store_settling::{View, bend_of};
 use store_tables::{Drawing, POINTS};
 
 // The x of every placed point.
@@ -45,10 +44,9 @@ pub fn look_point(view: &View, p: usize) -> Answer<Place>
     if !is_point(view.drawing.counts.k, p) {
         return Err(Refusal::NoSuch.at(0));
     }
-    let i = p - 1;
     Ok(Place {
-        x: view.x[i],
-        y: view.drawing.table.ys[i],
+        x: view.x[p - 1],
+        y: view.drawing.table.point(p).y,
     })
 }
 
@@ -61,24 +59,19 @@ pub fn look_line(view: &View, e: usize) -> Answer<LineSeen>
     if d.counts.lines <= e {
         return Err(Refusal::NoSuch.at(0));
     }
-    let l = store_lines::line_in(&d.table, e);
+    let l = d.table.lines[e];
     let style = d.counts.style;
     let Style::OneBend = style else {
         return Ok(LineSeen::Straight(l));
     };
-    let to = usize::from(l.later);
-    let from = usize::from(l.earlier);
-    let at = store_settling::bend_of(view, to, from, l.bend);
-    Ok(LineSeen::Bent(l, at))
+    Ok(LineSeen::Bent(l, bend_of(view, l)))
 }
 
-// A line with this entry and this later point is cut and ends at p.
-fn is_cut_to(word: u16, later: u16, p: usize) -> bool
-    ensures { result ≡ cut_to (entry_of word) later p }
+// A line is cut and ends at p.
+fn is_cut_to(l: Line, p: usize) -> bool
+    ensures { result ≡ cut_to l p }
 {
-    let x = words::entry_of(word);
-    let kind = x.kind;
-    words::is_cut(kind) && (usize::from(later) == p || usize::from(x.point) == p)
+    words::is_cut(l.kind) && (usize::from(l.later) == p || usize::from(l.earlier) == p)
 }
 
 // The first cut line that ends at p.
@@ -88,7 +81,7 @@ fn first_cut(d: &Drawing, p: usize) -> Option<usize>
     ensures { FirstCut (arrays_in d.now.table) d.now.counts.lines p result }
 {
     for e in 0..d.counts.lines {
-        if is_cut_to(d.table.words[e], d.table.later[e], p) {
+        if is_cut_to(d.table.lines[e], p) {
             return Some(e);
         }
     }

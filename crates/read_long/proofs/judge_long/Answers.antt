@@ -30,9 +30,6 @@ returns-then-d c =
     let at = c.args.entries.now.at in
     λ d h. long-finished h (words f at c.args.count c.requires.there) (many f at c.args.count c.requires.there c.requires.many) c.if-d.true
 
-pub judge_entry-requires : goal.judge_entry-requires
-judge_entry-requires c = (omega arith, omega arith)
-
 pub returns-in-Err : goal.returns-in-Err
 returns-in-Err c =
     let f = c.args.entries.now.file.now in
