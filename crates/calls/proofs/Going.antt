@@ -11,19 +11,20 @@ use Rattle.rules.specs.Refusals.{Answer, answer}
 use Rattle.rules.specs.Points.{Drawing as Plan, opening}
 use Rattle.rules.specs.Adding.{add}
 use Rattle.rules.specs.Calls.{left, after, answers, drawn, said}
-use Rattle.store_links.specs.declared.Counts.{Counts}
-use Rattle.store_links.specs.Arrays.{Arrays}
 use Rattle.store_links.specs.Storing.{judged}
-use Rattle.store_laws.specs.Adding.{Holds, called}
+use Rattle.store_tables.specs.declared.Drawing.{Drawing}
+use Rattle.store_tables.specs.Tables.{arrays_in}
+use Rattle.store_laws.specs.Adding.{called}
+use Rattle.store_laws.specs.Stored.{Is}
 use Rattle.calls_words.specs.Lists.{calls_in, end_of, number_in, place_in, with_answer}
 use Rattle.calls_words.specs.Rests.{no_calls, rest-calls}
 use Rattle.calls.specs.Answers.{answer_words, words_of}
 use Rattle.calls.specs.Turns.{Callable, Made, Begun, Ended}
 
 -- the calls up to index `at` of the words are made, and the first `told` words of the buffer are their answers
-pub record Going (τ : Style) (n : ℕ) (ws before : List ℕ) (a : Arrays) (c : Counts) (at told : ℕ) (out : List ℕ) : Type 0 where
+pub record Going (τ : Style) (n : ℕ) (ws before : List ℕ) (d : Drawing) (at told : ℕ) (out : List ℕ) : Type 0 where
   pub plan : Plan
-  pub holds : Holds plan a c
+  pub is : Is plan d
   pub range : at ≤ length ws
   pub drawing : after plan (calls_in (drop at ws)) ≡ drawn τ n (calls_in ws)
   pub buffer : take told out ++ words_of (answers plan (calls_in (drop at ws))) ≡ words_of (said τ n (calls_in ws))
@@ -33,11 +34,11 @@ pub record Going (τ : Style) (n : ℕ) (ws before : List ℕ) (a : Arrays) (c :
   pub words : told + 2 * length (calls_in (drop at ws)) ≡ 2 * length (calls_in ws)
 
 -- Before the first call.
-pub going_first : {τ : Style} {n : ℕ} {ws out : List ℕ} {a : Arrays} {c : Counts} → Begun τ n ws out a c → Going τ n ws out a c 0 0 out
+pub going_first : {τ : Style} {n : ℕ} {ws out : List ℕ} {d : Drawing} → Begun τ n ws out d → Going τ n ws out d 0 0 out
 going_first {τ} {n} b =
     record {
       plan = opening τ n;
-      holds = b.holds;
+      is = b.is;
       range = omega arith;
       drawing = refl;
       buffer = refl;
@@ -59,9 +60,9 @@ take-answer out i a h =
 drop-answer : (out : List ℕ) (i : ℕ) (a : Answer (Unit {0})) → drop (i + 2) (with_answer out i a) ≡ drop (i + 2) out
 drop-answer out i a = drop-set-lt (i + 2) (set out i (number_in a)) (i + 1) (place_in a) (omega arith) ∙ drop-set-lt (i + 2) out i (number_in a) (omega arith)
 
-module _ {τ : Style} {n : ℕ} {ws before : List ℕ} {a : Arrays} {c : Counts} {at told : ℕ} {out : List ℕ} (g : Going τ n ws before a c at told out) where
+module _ {τ : Style} {n : ℕ} {ws before : List ℕ} {d : Drawing} {at told : ℕ} {out : List ℕ} (g : Going τ n ws before d at told out) where
   -- After the last call.
-  pub going_last : length ws ≤ at → Ended τ n ws before a c out
+  pub going_last : length ws ≤ at → Ended τ n ws before d out
   going_last h =
       let none : calls_in (drop at ws) ≡ [] = no_calls ws at h in
       let all : told ≡ 2 * length (calls_in ws) = omega (arith, ap length none, g.words) in
@@ -70,7 +71,7 @@ module _ {τ : Style} {n : ℕ} {ws before : List ℕ} {a : Arrays} {c : Counts}
       sym (append-nil (take told out)) ∙ ap (λ (cs : List (List ℕ)). take told out ++ words_of (answers g.plan cs)) (sym none) ∙ g.buffer
       in
       record {
-        holds = subst (λ (p : Plan). Holds p a c) plan g.holds;
+        is = subst (λ (p : Plan). Is p d) plan g.is;
         buffer = sym (take-append-drop told out) ∙ rw (front, g.behind, all);
       }
 
@@ -88,24 +89,24 @@ module _ {τ : Style} {n : ℕ} {ws before : List ℕ} {a : Arrays} {c : Counts}
     told-room = omega (arith, ap length rest, g.words, g.room)
 
     -- It can be made.
-    pub callable : get_or ws at 0 < 65536 → Callable a c es out told
+    pub callable : get_or ws at 0 < 65536 → Callable d es out told
     callable b =
         record {
           plan = g.plan;
-          holds = g.holds;
+          is = g.is;
           few = omega (arith, length-take (end - (at + 1)) (drop (at + 1) ws));
           room = omega (arith, told-room, g.long);
         }
 
     -- One turn.
-    pub turn : {a' : Arrays} {c' : Counts} {out' : List ℕ} → Made a c es out told a' c' out' → Going τ n ws before a' c' end (told + 2) out'
+    pub turn : {d' : Drawing} {out' : List ℕ} → Made d es out told d' out' → Going τ n ws before d' end (told + 2) out'
     turn m =
-        let k = called g.holds es in
-        let told-now = answer (judged a c es) in
+        let k = called g.is es in
+        let told-now = answer (judged (arrays_in d.table) d.counts es) in
         let others : List ℕ = words_of (answers (left g.plan (add g.plan es)) (calls_in (drop end ws))) in
         record {
           plan = left g.plan (add g.plan es);
-          holds = rw (m.arrays, m.counts) k.holds;
+          is = rw (m.arrays, m.counts) k.holds;
           range = omega (arith, is);
           drawing = sym (ap (after g.plan) rest) ∙ g.drawing;
           buffer =

@@ -1,6 +1,6 @@
 -- The four outcomes of running a list of calls, and where it starts.
 use Prim.Native.Nat.{ℕ, ◌*◌, ◌<◌, ◌≤◌}
-use mathlib.Core.Path.{◌≡◌, refl, subst}
+use mathlib.Core.Path.{◌≡◌, refl, ap, ◌∙◌}
 use mathlib.Core.List.{List}
 use native.Mathlib.Omega.{arith}
 use lib.ListN.{length}
@@ -8,31 +8,28 @@ use Rattle.rules.specs.declared.Style.{Style}
 use Rattle.rules.specs.declared.Style.TheVariants.{OneBend, Straight}
 use Rattle.rules.specs.declared.Kind.TheVariants.{Plain}
 use Rattle.std.specs.Prelude.{Ok, Err}
-use Rattle.rules.specs.declared.Refused.{Refused}
 use Rattle.rules.specs.declared.Refusal.TheVariants.{OutOfRange, OutputShort}
-use Rattle.rules.specs.Refusals.{answer, refusal_at}
+use Rattle.rules.specs.Refusals.{Answer, refusal_at}
 use Rattle.rules.specs.Calls.{drawn}
-use Rattle.store_links.specs.declared.Counts.{Counts}
-use Rattle.store_links.specs.Arrays.{Arrays}
 use Rattle.store_links.specs.Opening.{open_arrays, open_counts}
 use Rattle.promise.specs.Promise.{Promised}
 use Rattle.promise.proofs.Bounds.{standing-start}
 use Rattle.promise.proofs.Theorem.{demand_3, wish_2}
 use Rattle.exchange.specs.Reaching.{reached-drawn}
-use Rattle.store_adding.specs.Calls.{Answered, call-accepted, call-refused}
+use Rattle.store_adding.specs.Calls.{Answered}
 use Rattle.store_laws.specs.Opened.{sized_open, stores_open}
-use Rattle.store_tables.specs.declared.Table.{Table}
+use Rattle.store_tables.specs.declared.Drawing.{Drawing}
 use Rattle.store_tables.specs.Tables.{arrays_in}
 use Rattle.calls_words.specs.Lists.{calls_in, with_answer, place_in}
 use Rattle.calls.specs.Turns.{Made, Begun, Ended, Runs}
 use Rattle.calls.specs.Ran.{Refuses, Ran}
 use Rattle.calls.specs.Places.{place_most}
 
--- The arrays and the numbers as opened hold the drawing as opened.
-pub begun : {τ : Style} {n : ℕ} {ws out : List ℕ} (a : Arrays) (c : Counts) → Runs τ n ws out → (a ≡ open_arrays τ 1 1 2) × (c ≡ open_counts τ n 1) → Begun c.style c.n ws out a c
-begun {τ} {n} a c h is =
+-- The drawing as opened.
+pub begun : {τ : Style} {n : ℕ} {ws out : List ℕ} (d : Drawing) → Runs τ n ws out → (arrays_in d.table ≡ open_arrays τ 1 1 2) × (d.counts ≡ open_counts τ n 1) → Begun d.counts.style d.counts.n ws out d
+begun {τ} {n} d h is =
     record {
-      holds =
+      is =
           rw (is.0, is.1)
           (record {
             standing = standing-start τ n 1 Plain Plain Plain h.low h.high;
@@ -42,27 +39,13 @@ begun {τ} {n} a c h is =
       room = h.room;
     }
 
--- The calls end in the drawing of this style for n points.
-pub ended_for : {τ : Style} {n : ℕ} {c k : Counts} {ws out out' : List ℕ} {a : Arrays} → c ≡ open_counts τ n 1 → Ended c.style c.n ws out a k out' → Ended τ n ws out a k out'
-ended_for {k = k} {ws} {out} {out'} {a} is h = subst (λ (c : Counts). Ended c.style c.n ws out a k out') is h
-
--- A call is made that is accepted, and one that is refused.
-module _ {a : Arrays} {c : Counts} {es out : List ℕ} {at : ℕ} {a' : Arrays} {out' : List ℕ} where
-  pub made : (n : Counts) → Answered a c es a' (Ok n) → out' ≡ with_answer out at (Ok tt) → Made a c es out at a' n out'
-  made n h w =
-      let j = call-accepted n h in
-      record { arrays = h.arrays; counts = rw (j.1, j.0); buffer = rw j.0 w }
-
-  pub made-refused : (e : Refused) → Answered a c es a' (Err e) → out' ≡ with_answer out at (Err e) → Made a c es out at a' c out'
-  made-refused e h w =
-      let j = call-refused e h in
-      record { arrays = h.arrays; counts = rw j; buffer = rw j w }
+-- A call is made, accepted or refused.
+pub made : {d : Drawing} {es out : List ℕ} {at : ℕ} {d' : Drawing} {out' : List ℕ} {r : Answer (Unit {0})} → Answered d es d' r → out' ≡ with_answer out at r → Made d es out at d' out'
+made {out = out} {at} h w = record { arrays = h.arrays; counts = h.counts; buffer = w ∙ ap (with_answer out at) h.answer }
 
 -- The place of a refusal fits where the entries were counted by 16 bits.
-pub place_fits : {a : Arrays} {c : Counts} {es : List ℕ} {a' : Arrays} (e : Refused) → Answered a c es a' (Err e) → length es < 65536 → e.place < 65536
-place_fits {a} {c} {es} e h few =
-    let p : e.place ≤ length es = subst (λ o. place_in (answer o) ≤ length es) (call-refused e h) (place_most a c es) in
-    omega (arith, p)
+pub place_fits : {d : Drawing} {es : List ℕ} {d' : Drawing} (r : Answer (Unit {0})) → Answered d es d' r → length es < 65536 → place_in r < 65536
+place_fits {d} {es} r h few = let p : place_in r ≤ length es = rw h.answer (place_most (arrays_in d.table) d.counts es) in omega (arith, p)
 
 module _ {τ : Style} {n : ℕ} {ws before : List ℕ} where
   -- n is out of range.
@@ -87,9 +70,8 @@ promised OneBend = demand_3
 promised Straight = wish_2
 
 -- Every call was made.
-pub accepted : {τ : Style} {n : ℕ} {ws before after : List ℕ} (t : Table) {c : Counts} → Runs τ n ws before → Ended τ n ws before (arrays_in t) c after →
-    Ran τ n ws before after (Ok (record { counts = c; table = t }))
-accepted {τ} {n} {ws} t {c} h e =
+pub accepted : {τ : Style} {n : ℕ} {ws before after : List ℕ} (d : Drawing) → Runs τ n ws before → Ended τ n ws before d after → Ran τ n ws before after (Ok d)
+accepted {τ} {n} {ws} d h e =
     record {
       low = λ l. absurd (omega (arith, h.low));
       high = λ l. absurd (omega (arith, h.high));
@@ -97,11 +79,11 @@ accepted {τ} {n} {ws} t {c} h e =
       enough =
           λ l u s.
           record {
-            d = record { counts = c; table = t };
+            d = d;
             answer = refl;
             buffer = e.buffer;
-            drawing = e.holds;
-            came = record { plan = drawn τ n (calls_in ws); reached = reached-drawn τ n l u (calls_in ws); is = e.holds };
+            drawing = e.is;
+            came = record { plan = drawn τ n (calls_in ws); reached = reached-drawn τ n l u (calls_in ws); is = e.is };
             promise = promised τ n l u (calls_in ws);
           };
     }

@@ -4,17 +4,16 @@ use Rattle.rules.specs.declared.Style.{Style}
 use Rattle.rules.specs.Refusals.{Answer, refused_with}
 use Rattle.rules.specs.Calls.{drawn, said}
 use Rattle.promise.specs.Promise.{Promised}
-use Rattle.store_links.specs.declared.Counts.{Counts}
-use Rattle.store_tables.specs.declared.Table.{Table}
-use Rattle.drawing.specs.declared.Drawing.{Drawing}
-use Rattle.drawing.specs.View.{Is, Came, told_drawing}
+use Rattle.store_tables.specs.declared.Drawing.{Drawing}
+use Rattle.store_laws.specs.Stored.{Is}
+use Rattle.drawing.specs.View.{Came, told_drawing}
 use Rattle.calls_words.specs.Lists.{calls_in}
 use Rattle.calls.specs.Answers.{words_of}
 
--- what was answered, with the drawing of the numbers and the table
-abbrev pub drawing_in : Answer Counts → Table → Answer Drawing
-drawing_in (Ok c) t = Ok (record { counts = c; table = t })
-drawing_in (Err e) t = Err e
+-- what was answered, with the drawing that was left
+abbrev pub drawing_in : Answer (Unit {0}) → Drawing → Answer Drawing
+drawing_in (Ok t) d = Ok d
+drawing_in (Err e) d = Err e
 
 -- refused with this number: there is no drawing, and no word of the buffer changes
 pub record Refuses (why : ℕ) (before after : List ℕ) (r : Answer Drawing) : Type 0 where

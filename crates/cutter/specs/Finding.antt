@@ -6,8 +6,8 @@ use Rattle.rules.specs.Moves.{Tool as WholeTool, moves_of, all_moves}
 use Rattle.store_links.specs.declared.Counts.{Counts}
 use Rattle.store_links.specs.Arrays.{Arrays}
 use Rattle.store_laws.specs.Adding.{Holds}
-use Rattle.store_tables.specs.declared.Table.{Table}
-use Rattle.store_tables.specs.Tables.{arrays_in}
+use Rattle.store_tables.specs.declared.Drawing.{Drawing}
+use Rattle.store_laws.specs.Stored.{Is}
 use Rattle.tool.specs.declared.Numbers.{Numbers}
 use Rattle.tool.specs.Checking.{tool_of}
 use Rattle.cutter_lines.specs.declared.Groove.{Groove}
@@ -29,8 +29,8 @@ Finds q t i (Some r) = FindsMove q t i r
 Finds q t i None = length (all_moves q t) ≤ i
 
 -- a buffer has room for all kinds, and one for all numbers
-abbrev pub RoomIn : Table → Counts → Numbers → ℕ → ℕ → Type 0
-RoomIn table c t kinds numbers = (q : Plan) → Holds q (arrays_in table) c → (length (all_moves q (tool_of t)) ≤ kinds) × (2 * length (all_moves q (tool_of t)) ≤ numbers)
+abbrev pub RoomIn : Drawing → Numbers → ℕ → ℕ → Type 0
+RoomIn d t kinds numbers = (q : Plan) → Is q d → (length (all_moves q (tool_of t)) ≤ kinds) × (2 * length (all_moves q (tool_of t)) ≤ numbers)
 
 -- What is counted of a line is how many moves it gives.
 pub total_is : (q : Plan) (t : WholeTool) (e : ℕ) (g : Groove) → g ≡ groove_of q (line_at q e) → 1 ≤ q.s → 1 ≤ t.pitch → total g ≡ length (moves_of q t (line_at q e))

@@ -5,11 +5,9 @@ ghost use Rattle.std.specs.Prelude.{◌≡◌, true, ◌≤◌, length};
 ghost use Rattle.rules.specs.Refusals.{told};
 ghost use Rattle.rules.specs.Points.{Drawing as Plan};
 ghost use Rattle.rules.specs.Moves.{Tool as WholeTool, is_tool, all_moves, given_moves, move_at};
-ghost use Rattle.store_laws.specs.Adding.{Holds};
-ghost use Rattle.store_tables.specs.Tables.{arrays_in};
+ghost use Rattle.store_laws.specs.Stored.{Is};
 ghost use Rattle.answers.specs.Told.{told_count};
 ghost use Rattle.tool.specs.Checking.{whole_tool, tool_of};
-ghost use Rattle.drawing.specs.View.{Is};
 ghost use Rattle.drawing.specs.Places.{PlacedIn, IsPlaced};
 ghost use Rattle.cutter_lists.specs.Listing.{Puts};
 ghost use Rattle.cutter.specs.Finding.{Finds, RoomIn};
@@ -22,7 +20,7 @@ use cutter_lines::Setting;
 use drawing::Placed;
 use rules::{Answer, Refusal};
 use store_links::Counts;
-use store_tables::{POINTS, Table};
+use store_settling::View;
 use tool::{Move, Tool};
 
 // The line that a move belongs to, and how many moves stand before that line's.
@@ -33,13 +31,13 @@ struct Found {
 }
 
 // Looks for move `number`, from 0, line by line.
-fn find(table: &Table, x: &[u16; POINTS], c: Counts, number: usize) -> Option<Found>
-    requires { PlacedIn c table.now x.now }
-    ensures { (q : Plan) (t : WholeTool) → Holds q (arrays_in table.now) c → 1 ≤ t.pitch → Finds q t number result }
+fn find(view: &View, number: usize) -> Option<Found>
+    requires { PlacedIn view.now.drawing.now view.now.x.now }
+    ensures { (q : Plan) (t : WholeTool) → Is q view.now.drawing.now → 1 ≤ t.pitch → Finds q t number result }
 {
     let mut before = 0;
-    for line in 0..c.lines {
-        let here = cutter_grooves::groove_of(table, x, c, line).move_total();
+    for line in 0..view.drawing.counts.lines {
+        let here = cutter_grooves::groove_of(view, line).move_total();
         if number < before + here {
             return Some(Found { line, before });
         }
@@ -49,13 +47,13 @@ fn find(table: &Table, x: &[u16; POINTS], c: Counts, number: usize) -> Option<Fo
 }
 
 // How many moves there are.
-fn count_moves(table: &Table, x: &[u16; POINTS], c: Counts) -> usize
-    requires { PlacedIn c table.now x.now }
-    ensures { (q : Plan) (t : WholeTool) → Holds q (arrays_in table.now) c → 1 ≤ t.pitch → result ≡ length (all_moves q t) }
+fn count_moves(view: &View) -> usize
+    requires { PlacedIn view.now.drawing.now view.now.x.now }
+    ensures { (q : Plan) (t : WholeTool) → Is q view.now.drawing.now → 1 ≤ t.pitch → result ≡ length (all_moves q t) }
 {
     let mut count = 0;
-    for line in 0..c.lines {
-        let here = cutter_grooves::groove_of(table, x, c, line).move_total();
+    for line in 0..view.drawing.counts.lines {
+        let here = cutter_grooves::groove_of(view, line).move_total();
         count += here;
     }
     count
@@ -73,21 +71,19 @@ fn setting(c: Counts, t: Tool) -> Answer<Setting>
     Ok(Setting { scale: c.s, tool })
 }
 
-// Move `number`, from 0, of the moves with this tool, from a lent table and its settled x. Refusals in order: 12, 22, 23.
-// For `panel_c`: it asks for the table of a drawing. It takes the time of one pass over the lines.
+// Move `number`, from 0, of the moves with this tool. Refusals in order: 12, 22, 23.
+// For `panel_c`, which is lent a drawing. It takes the time of one pass over the lines.
 pub fn look_move(
-    table: &Table,
-    x: &[u16; POINTS],
-    c: Counts,
+    view: &View,
     t: Tool,
     number: usize,
 ) -> Answer<Move>
-    requires { PlacedIn c table.now x.now }
-    ensures { (q : Plan) → Holds q (arrays_in table.now) c → MoveSeen result (move_at q (whole_tool t) number) }
+    requires { PlacedIn view.now.drawing.now view.now.x.now }
+    ensures { (q : Plan) → Is q view.now.drawing.now → MoveSeen result (move_at q (whole_tool t) number) }
 {
-    let by = setting(c, t)?;
-    let found = find(table, x, c, number).ok_or(Refusal::NoSuch.at(0))?;
-    let groove = cutter_grooves::groove_of(table, x, c, found.line);
+    let by = setting(view.drawing.counts, t)?;
+    let found = find(view, number).ok_or(Refusal::NoSuch.at(0))?;
+    let groove = cutter_grooves::groove_of(view, found.line);
     Ok(groove.move_at(number - found.before, by))
 }
 
@@ -96,8 +92,7 @@ pub fn move_at(v: Placed, t: Tool, number: usize) -> Answer<Move>
     requires { IsPlaced v }
     ensures { (q : Plan) → Is q v.drawing → MoveSeen result (move_at q (whole_tool t) number) }
 {
-    let d = v.drawing;
-    look_move(&d.table, &v.x, d.counts, t, number)
+    look_move(&v.view(), t, number)
 }
 
 // How many moves a finished drawing has, whatever the tool.
@@ -105,59 +100,54 @@ pub fn move_count(v: Placed) -> Answer<usize>
     requires { IsPlaced v }
     ensures { (q : Plan) (t : WholeTool) → Is q v.drawing → is_tool t ≡ true → told_count result ≡ told (move_count q t) }
 {
-    let d = v.drawing;
-    let c = d.counts;
+    let c = v.drawing.counts;
     if c.k < c.n {
         Err(Refusal::Unfinished.at(0))
     } else {
-        Ok(count_moves(&d.table, &v.x, c))
+        Ok(count_moves(&v.view()))
     }
 }
 
 // Puts all moves of the drawing into the buffers.
 fn put_moves(
-    table: &Table,
-    x: &[u16; POINTS],
-    c: Counts,
+    view: &View,
     by: Setting,
     kinds: &mut [u8],
     numbers: &mut [f32],
 ) -> usize
-    requires placed { PlacedIn c table.now x.now }
-    requires scaled { by.scale ≡ c.s }
-    requires room { RoomIn table.now c by.tool (length kinds.old) (length numbers.old) }
-    ensures { (q : Plan) → Holds q (arrays_in table.now) c → Puts kinds.old numbers.old 0 (all_moves q (tool_of by.tool)) kinds.new numbers.new result }
+    requires placed { PlacedIn view.now.drawing.now view.now.x.now }
+    requires scaled { by.scale ≡ view.now.drawing.now.counts.s }
+    requires room { RoomIn view.now.drawing.now by.tool (length kinds.old) (length numbers.old) }
+    ensures { (q : Plan) → Is q view.now.drawing.now → Puts kinds.old numbers.old 0 (all_moves q (tool_of by.tool)) kinds.new numbers.new result }
 {
     let mut count = 0;
-    for line in 0..c.lines {
-        let groove = cutter_grooves::groove_of(table, x, c, line);
+    for line in 0..view.drawing.counts.lines {
+        let groove = cutter_grooves::groove_of(view, line);
         count = cutter_lists::put_groove(kinds, numbers, count, groove, by);
     }
     count
 }
 
 // All moves with this tool in their order, written into the buffers: a kind and two numbers a move. Refusals in order: 12, 22, then 24 for the kinds, then for the numbers.
-// For `panel_c`: it asks for the table of a drawing.
+// For `panel_c`, which is lent a drawing.
 pub fn look_moves(
-    table: &Table,
-    x: &[u16; POINTS],
-    c: Counts,
+    view: &View,
     t: Tool,
     kinds: &mut [u8],
     numbers: &mut [f32],
 ) -> Result<usize, NotListed>
-    requires { PlacedIn c table.now x.now }
-    ensures { (q : Plan) → Holds q (arrays_in table.now) c → Lists (given_moves q (whole_tool t)) kinds.old numbers.old kinds.new numbers.new result }
+    requires { PlacedIn view.now.drawing.now view.now.x.now }
+    ensures { (q : Plan) → Is q view.now.drawing.now → Lists (given_moves q (whole_tool t)) kinds.old numbers.old kinds.new numbers.new result }
 {
-    let by = setting(c, t)?;
-    let count = count_moves(table, x, c);
+    let by = setting(view.drawing.counts, t)?;
+    let count = count_moves(view);
     if kinds.len() < count {
         return Err(NotListed::KindsShort);
     }
     if numbers.len() < 2 * count {
         return Err(NotListed::NumbersShort);
     }
-    Ok(put_moves(table, x, c, by, kinds, numbers))
+    Ok(put_moves(view, by, kinds, numbers))
 }
 
 // The same of a drawing by value.
@@ -170,6 +160,5 @@ pub fn moves_into(
     requires { IsPlaced v }
     ensures { (q : Plan) → Is q v.drawing → Lists (given_moves q (whole_tool t)) kinds.old numbers.old kinds.new numbers.new result }
 {
-    let d = v.drawing;
-    look_moves(&d.table, &v.x, d.counts, t, kinds, numbers)
+    look_moves(&v.view(), t, kinds, numbers)
 }

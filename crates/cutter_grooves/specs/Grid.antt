@@ -18,7 +18,7 @@ use Rattle.cutter_lines.specs.Grooves.{OnGrid, GrooveOnGrid}
 use Rattle.answers.specs.Told.{point_seen, line_seen, seen_of}
 use Rattle.answers.specs.declared.LineSeen.{LineSeen}
 use Rattle.answers.specs.declared.LineSeen.TheVariants as Line
-use Rattle.drawing.specs.declared.Drawing.{Drawing}
+use Rattle.store_tables.specs.declared.Drawing.{Drawing}
 use Rattle.drawing.specs.View.{Came}
 use Rattle.store_settling.specs.Lines.{ends}
 use Rattle.cutter_grooves.specs.Grooves.{bend_by, groove_of}

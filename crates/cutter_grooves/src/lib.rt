@@ -1,10 +1,9 @@
-// A line of the drawing in a lent table, as it is cut. For `cutter`: it asks for the table of a drawing, with its x settled.
+// A line of a drawing, as it is cut. For `cutter`: it asks for a stored drawing with its x settled.
 #![tactic(auto)]
 
 ghost use Rattle.std.specs.Prelude.{◌≡◌, ◌≤◌, ◌<◌};
 ghost use Rattle.rules.specs.Points.{Drawing as Plan, place_of, line_at};
-ghost use Rattle.store_laws.specs.Adding.{Holds};
-ghost use Rattle.store_tables.specs.Tables.{arrays_in};
+ghost use Rattle.store_laws.specs.Stored.{Is};
 ghost use Rattle.cutter_lines.specs.Grooves.{GrooveOnGrid};
 ghost use Rattle.drawing.specs.Places.{PlacedIn};
 ghost use Rattle.cutter_grooves.specs.Grid.{line_in, bend_in};
@@ -13,16 +12,15 @@ ghost use Rattle.cutter_grooves.specs.Grooves.{groove_of};
 use answers::LineSeen;
 use cutter_lines::Groove;
 use rules::{Line, Place};
-use store_links::Counts;
-use store_tables::{POINTS, Table};
+use store_settling::View;
 
 // The place of a placed point.
-fn place_of(table: &Table, x: &[u16; POINTS], c: Counts, p: u16) -> Place
-    requires placed { PlacedIn c table.now x.now }
-    requires there { (1 ≤ p) × (p ≤ c.k) }
-    ensures { (q : Plan) → Holds q (arrays_in table.now) c → result ≡ place_of q p }
+fn place_of(view: &View, p: u16) -> Place
+    requires placed { PlacedIn view.now.drawing.now view.now.x.now }
+    requires there { (1 ≤ p) × (p ≤ view.now.drawing.now.counts.k) }
+    ensures { (q : Plan) → Is q view.now.drawing.now → result ≡ place_of q p }
 {
-    store_looking::look_point(table, x, c, usize::from(p)).unwrap()
+    store_looking::look_point(view, usize::from(p)).unwrap()
 }
 
 // The line that was seen.
@@ -45,16 +43,16 @@ fn bend_of(seen: LineSeen, earlier: Place) -> Place
 }
 
 // Line e, as it is cut.
-pub fn groove_of(table: &Table, x: &[u16; POINTS], c: Counts, e: usize) -> Groove
-    requires placed { PlacedIn c table.now x.now }
-    requires there { e < c.lines }
-    ensures is { (q : Plan) → Holds q (arrays_in table.now) c → result ≡ groove_of q (line_at q e) }
+pub fn groove_of(view: &View, e: usize) -> Groove
+    requires placed { PlacedIn view.now.drawing.now view.now.x.now }
+    requires there { e < view.now.drawing.now.counts.lines }
+    ensures is { (q : Plan) → Is q view.now.drawing.now → result ≡ groove_of q (line_at q e) }
     ensures fits { GrooveOnGrid result }
 {
-    let seen = store_looking::look_line(table, x, c, e).unwrap();
+    let seen = store_looking::look_line(view, e).unwrap();
     let line = line_of(seen);
-    let later = place_of(table, x, c, line.later);
-    let earlier = place_of(table, x, c, line.earlier);
+    let later = place_of(view, line.later);
+    let earlier = place_of(view, line.earlier);
     Groove {
         kind: line.kind,
         later,

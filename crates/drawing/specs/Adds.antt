@@ -1,21 +1,21 @@
 -- What adding leaves: the answer and the drawing of the rules, and, refused, the drawing as it was.
 use Rattle.std.specs.Prelude.{ℕ, ◌≡◌, List, Ok, Err}
-use Rattle.std.proofs.Common.{ap, ◌∙◌}
+use Rattle.std.proofs.Common.{ap, sym, ◌∙◌}
 use Rattle.rules.specs.declared.Refused.{Refused}
 use Rattle.rules.specs.Refusals.{good, Answer, answer, told, told_answer, ◌>>◌}
+use Rattle.rules.specs.Results.{refusing}
 use Rattle.rules.specs.Numbers.{answer-told}
 use Rattle.rules.specs.Points.{Drawing as Plan}
 use Rattle.rules.specs.Adding.{add}
 use Rattle.rules.specs.Calls.{left}
 use Rattle.exchange.specs.Reaching.{reached_left}
-use Rattle.store_links.specs.declared.Counts.{Counts}
 use Rattle.store_links.specs.Storing.{judged}
-use Rattle.store_laws.specs.Adding.{Holds, called}
-use Rattle.store_tables.specs.declared.Table.{Table}
+use Rattle.store_laws.specs.Adding.{called}
+use Rattle.store_laws.specs.Stored.{Is}
+use Rattle.store_tables.specs.declared.Drawing.{Drawing}
 use Rattle.store_tables.specs.Tables.{arrays_in}
-use Rattle.store_adding.specs.Calls.{Answered, call-refused, call-accepted}
-use Rattle.drawing.specs.declared.Drawing.{Drawing}
-use Rattle.drawing.specs.View.{Is, Came, told_drawing}
+use Rattle.store_adding.specs.Calls.{Answered}
+use Rattle.drawing.specs.View.{Came, told_drawing}
 
 -- the drawing that the call returned or left
 abbrev pub left_by : Drawing → Answer Drawing → Drawing
@@ -36,15 +36,14 @@ module _ {d : Drawing} (es : List ℕ) (c : Came d) where
   says p i = ap told_answer (called i es).answers ∙ answer-told (add p es)
 
   -- Refused, everything is as it was.
-  pub adds-refused : (t : Table) (e : Refused) → Answered (arrays_in d.table) d.counts es (arrays_in t) (Err e) → AddsTo d es (Err e)
-  adds-refused t e h =
-      let j = call-refused e h in
+  pub adds-refused : (d' : Drawing) (e : Refused) → Answered d es d' (Err e) → AddsTo d es (Err e)
+  adds-refused d' e h =
+      let j = refusing (judged (arrays_in d.table) d.counts es) e (sym h.answer) in
       let is : (p : Plan) → Is p d → Is (left p (add p es)) d = λ p i. rw j at (called i es).holds in
       record { right = λ p i. (rw j at says p i, is p i); came = came_left es c is }
 
   -- Accepted, the point is there.
-  pub adds : (t : Table) (n : Counts) → Answered (arrays_in d.table) d.counts es (arrays_in t) (Ok n) → AddsTo d es (Ok (record { counts = n; table = t }))
-  adds t n h =
-      let j = call-accepted n h in
-      let is : (p : Plan) → Is p d → Holds (left p (add p es)) (arrays_in t) n = λ p i. rw (h.arrays, j.1, j.0) (rw j.0 at (called i es).holds) in
-      record { right = λ p i. (rw j.0 at says p i, is p i); came = came_left es c is }
+  pub adds : (d' : Drawing) → Answered d es d' (Ok tt) → AddsTo d es (Ok d')
+  adds d' h =
+      let is : (p : Plan) → Is p d → Is (left p (add p es)) d' = λ p i. rw (h.arrays, h.counts) (called i es).holds in
+      record { right = λ p i. (ap told_answer h.answer ∙ says p i, is p i); came = came_left es c is }

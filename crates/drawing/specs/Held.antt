@@ -7,9 +7,10 @@ use Rattle.exchange.specs.Kept.{reached-keeps, reached-exact}
 use Rattle.store_links.specs.declared.Counts.{Counts}
 use Rattle.store_links.specs.Arrays.{Arrays}
 use Rattle.store_laws.specs.Adding.{Holds}
+use Rattle.store_laws.specs.Stored.{Is}
+use Rattle.store_tables.specs.declared.Drawing.{Drawing}
 use Rattle.store_settling.specs.One.{stored_one}
-use Rattle.drawing.specs.declared.Drawing.{Drawing}
-use Rattle.drawing.specs.View.{Is, Came}
+use Rattle.drawing.specs.View.{Came}
 
 -- Arrays and numbers hold one drawing of the rules at most.
 pub holds_one : {p q : Plan} {a : Arrays} {c : Counts} → Holds p a c → Holds q a c → p ≡ q

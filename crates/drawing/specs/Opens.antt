@@ -8,12 +8,13 @@ use Rattle.rules.specs.Basics.{between}
 use Rattle.rules.specs.Refusals.{Result, good, refused, Answer, refusal_at, told, ◌>>◌}
 use Rattle.rules.specs.Points.{Drawing as Plan, opening, opened}
 use Rattle.store_links.specs.Opening.{open_arrays, open_counts}
+use Rattle.store_laws.specs.Stored.{Is}
+use Rattle.store_tables.specs.declared.Drawing.{Drawing}
 use Rattle.store_tables.specs.Tables.{arrays_in}
 use Rattle.promise.proofs.Bounds.{standing-start}
 use Rattle.exchange.specs.Reaching.{reached-opening}
 use Rattle.store_laws.specs.Opened.{sized_open, stores_open}
-use Rattle.drawing.specs.declared.Drawing.{Drawing}
-use Rattle.drawing.specs.View.{Is, Came, told_drawing}
+use Rattle.drawing.specs.View.{Came, told_drawing}
 
 -- the drawing that goes with what the rules give; none goes with a refusal
 abbrev pub DrawingOf : Result Plan → Answer Drawing → Type 0

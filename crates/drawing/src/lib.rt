@@ -1,4 +1,4 @@
-// The drawing by value: opening, adding, look-ups. It wraps the core over a lent table and copies at entry and exit only.
+// The drawing by value: opening, adding, look-ups. It wraps the core over a lent drawing and copies at entry and exit only.
 #![tactic(auto)]
 
 ghost use Rattle.std.specs.Prelude.{◌≡◌};
@@ -6,22 +6,18 @@ ghost use Rattle.rules.specs.Refusals.{told};
 ghost use Rattle.rules.specs.Points.{Drawing as Plan};
 ghost use Rattle.rules.specs.Lookups.{look_point, look_line, LooksCut};
 ghost use Rattle.answers.specs.Told.{told_point, told_line, told_cut};
-ghost use Rattle.drawing.specs.View.{Is, Came};
+ghost use Rattle.store_laws.specs.Stored.{Is};
+ghost use Rattle.drawing.specs.View.{Came};
 ghost use Rattle.drawing.specs.Opens.{OpenFor, Opens};
 ghost use Rattle.drawing.specs.Adds.{AddsTo};
 ghost use Rattle.drawing.specs.Places.{IsPlaced};
 
 use answers::LineSeen;
 use rules::{Answer, FEWEST_POINTS, MOST_POINTS, Place, Refusal, Style};
-use store_links::Counts;
-use store_tables::{POINTS, Table};
+use store_settling::View;
+use store_tables::POINTS;
 
-// A drawing as the program keeps it: boundary links and gaps in one table (crate `store_links` says what each of its arrays holds).
-#[derive(Clone, Copy)]
-pub struct Drawing {
-    pub counts: Counts,
-    pub table: Table,
-}
+pub use store_tables::Drawing;
 
 // A drawing with the x of every placed point, settled once for many look-ups.
 #[derive(Clone, Copy)]
@@ -30,13 +26,26 @@ pub struct Placed {
     pub x: [u16; POINTS],
 }
 
+impl Placed {
+    // Both parts, lent.
+    pub fn view<'a>(&'a self) -> View<'a>
+        ensures drawing { result.drawing.now ≡ self.now.drawing }
+        ensures x { result.x.now ≡ self.now.x }
+    {
+        View {
+            drawing: &self.drawing,
+            x: &self.x,
+        }
+    }
+}
+
 // The drawing as opened: points 1, 2, 3 and their three cut lines.
 fn as_opened(style: Style, n: usize) -> Drawing
     ensures { OpenFor style n result }
 {
-    let mut table = Table::zeros();
-    let counts = store_points::open_in(&mut table, style, n, 1, 1, 1, 2);
-    Drawing { counts, table }
+    let mut d = Drawing::blank();
+    store_points::open_in(&mut d, style, n, 1, 1, 1, 2);
+    d
 }
 
 // Opens a drawing of this style for n points.
@@ -54,9 +63,9 @@ pub fn add(d: Drawing, e: &[u16]) -> Answer<Drawing>
     requires { Came d }
     ensures { AddsTo d e.now result }
 {
-    let mut table = d.table;
-    let counts = store_adding::add(&mut table, d.counts, e)?;
-    Ok(Drawing { counts, table })
+    let mut next = d;
+    store_adding::add(&mut next, e)?;
+    Ok(next)
 }
 
 // The drawing with its x settled.
@@ -64,8 +73,7 @@ pub fn settle(d: Drawing) -> Placed
     requires { Came d }
     ensures { (result.drawing ≡ d) × IsPlaced result }
 {
-    let c = d.counts;
-    let x = store_looking::settled(&d.table, c.k);
+    let x = store_looking::settled(&d);
     Placed { drawing: d, x }
 }
 
@@ -74,8 +82,7 @@ pub fn point_at(v: Placed, p: usize) -> Answer<Place>
     requires { IsPlaced v }
     ensures { (q : Plan) → Is q v.drawing → told_point result ≡ told (look_point q p) }
 {
-    let d = v.drawing;
-    store_looking::look_point(&d.table, &v.x, d.counts, p)
+    store_looking::look_point(&v.view(), p)
 }
 
 // The same, where one look-up is enough.
@@ -91,8 +98,7 @@ pub fn line_at(v: Placed, e: usize) -> Answer<LineSeen>
     requires { IsPlaced v }
     ensures { (q : Plan) → Is q v.drawing → told_line result ≡ told (look_line q e) }
 {
-    let d = v.drawing;
-    store_looking::look_line(&d.table, &v.x, d.counts, e)
+    store_looking::look_line(&v.view(), e)
 }
 
 // The same, where one look-up is enough.
@@ -108,5 +114,5 @@ pub fn cut_line(d: Drawing, p: usize) -> Answer<Option<usize>>
     requires { Came d }
     ensures { (q : Plan) → Is q d → LooksCut q p (told_cut result) }
 {
-    store_looking::look_cut(&d.table, d.counts, p)
+    store_looking::look_cut(&d, p)
 }

@@ -1,4 +1,4 @@
--- A file that passes: the arrays as opened hold the drawing that it begins, and the groups of points 4 to n give the rest.
+-- A file that passes: the drawing as opened stores the plan that it begins, and the groups of points 4 to n give the rest.
 use Prim.Native.Nat.{ℕ, ◌+◌, ◌-◌, ◌*◌, ◌≤◌}
 use mathlib.Core.Path.{◌≡◌, ap, ap₂, sym, ◌∙◌, subst}
 use mathlib.Core.List.{List}
@@ -9,13 +9,14 @@ use Rattle.std.specs.Prelude.{Err}
 use Rattle.rules.specs.declared.Refused.{Refused}
 use Rattle.rules.specs.Refusals.{Answer, Result, answer}
 use Rattle.rules.specs.Readings.{entry_of}
-use Rattle.rules.specs.Points.{Drawing}
+use Rattle.rules.specs.Points.{Drawing as Plan}
 use Rattle.rules.specs.DrawingFile.{entry_in, judge_rest, judge_drawing}
 use Rattle.store_links.specs.declared.Counts.{Counts}
-use Rattle.store_links.specs.Arrays.{Arrays}
 use Rattle.store_links.specs.Opening.{open_arrays, open_counts}
 use Rattle.promise.proofs.Bounds.{standing-start}
-use Rattle.store_laws.specs.Adding.{Holds}
+use Rattle.store_tables.specs.declared.Drawing.{Drawing}
+use Rattle.store_tables.specs.Tables.{arrays_in}
+use Rattle.store_laws.specs.Stored.{Is}
 use Rattle.store_laws.specs.Opened.{sized_open, stores_open}
 use Rattle.rules.specs.Results.{refusing}
 use Rattle.read_groups.specs.Lines.{lines_at, line_at}
@@ -27,7 +28,7 @@ use Rattle.read_drawings.specs.Contracted.{rest_groups, AllGrouped, LinesRead}
 use Rattle.read_orders.specs.Points.{Gave}
 
 -- a refusal before the groups
-pub refused-early : (τ : Style) (f : List ℕ) {a : Arrays} {e : Refused} → answer (file_tests τ f) ≡ Err e → LinesRead τ f a (Err e)
+pub refused-early : (τ : Style) (f : List ℕ) {d : Drawing} {e : Refused} → answer (file_tests τ f) ≡ Err e → LinesRead τ f d (Err e)
 refused-early τ f {e = e} h = record { gives = judged_so τ f ∙ rw (refusing (file_tests τ f) e h) }
 
 -- where its lines lie
@@ -35,10 +36,10 @@ pub lines_lie : {τ : Style} {f : List ℕ} → Passes τ f → (n : ℕ) → n 
 lines_lie {τ} {f} t n is = (subst (λ (m : ℕ). lines_end τ m ≤ length f) (sym is) t.there, omega (arith, t.low), omega (arith, t.high))
 
 module _ {τ : Style} {f : List ℕ} (t : Passes τ f) (n s : ℕ) (isN : n ≡ n_in f) (isS : s ≡ s_in f) where
-  -- the arrays and the numbers as opened
-  pub opened_holds : (size : ℕ) → size ≡ line_size τ → (x y z : ℕ) (a : Arrays) (c : Counts) → x ≡ number_for (entry_in τ (line_at τ f (head_size + place_size * n))) → y ≡ number_for (entry_in τ (line_at τ f (head_size + place_size * n + size))) → z ≡ number_for (entry_in τ (line_at τ f (head_size + place_size * n + size + size))) →
-      (a ≡ open_arrays τ x y z) × (c ≡ open_counts τ n s) → Holds (begun_in τ f) a c
-  opened_holds size is x y z a c hx hy hz (ha, hc) =
+  -- the drawing as opened
+  pub opened_holds : (size : ℕ) → size ≡ line_size τ → (x y z : ℕ) (d : Drawing) → x ≡ number_for (entry_in τ (line_at τ f (head_size + place_size * n))) → y ≡ number_for (entry_in τ (line_at τ f (head_size + place_size * n + size))) → z ≡ number_for (entry_in τ (line_at τ f (head_size + place_size * n + size + size))) →
+      (arrays_in d.table ≡ open_arrays τ x y z) × (d.counts ≡ open_counts τ n s) → Is (begun_in τ f) d
+  opened_holds size is x y z d hx hy hz (ha, hc) =
       let ex : entry_of x ≡ record { point = 1; kind = (entry_in τ (first_line τ f)).kind } =
       ap entry_of (hx ∙ ap (λ (m : ℕ). number_for (entry_in τ (line_at τ f (head_size + place_size * m)))) isN) ∙ number_back τ (first_line τ f) 1 t.first (omega arith)
       in
@@ -58,5 +59,5 @@ module _ {τ : Style} {f : List ℕ} (t : Passes τ f) (n s : ℕ) (isN : n ≡ 
       ap (λ (m : ℕ). judge_rest τ (m - 3) (lines_end τ m) (begun_in τ f) (lines_at τ f (line_count m - 3) (lines_from m + line_size τ * 3))) isN ∙ sym t.left
 
   -- the whole file
-  pub all_read : {a a' : Arrays} {c : Counts} {r : Answer Counts} → c ≡ open_counts τ n s → Holds (begun_in τ f) a c → AllGrouped τ f (head_size + place_size * n) (3 * n - 6) a c a' r → LinesRead τ f a' r
-  all_read {a} {a'} {c} {r} e h g = subst (λ (o : Result Drawing). Gave o a' r) (left_over e) (g (begun_in τ f) h)
+  pub all_read : {d d' : Drawing} {r : Answer (Unit {0})} → d.counts ≡ open_counts τ n s → Is (begun_in τ f) d → AllGrouped τ f (head_size + place_size * n) (3 * n - 6) d d' r → LinesRead τ f d' r
+  all_read {d' = d'} {r = r} e h g = subst (λ (o : Result Plan). Gave o d' r) (left_over e) (g (begun_in τ f) h)

@@ -136,13 +136,14 @@ pub enum Style {
     Straight,
 }
 
-// Where a line bends: at a left, right or middle port, with the port's index, or nowhere.
+// Where a line bends: nowhere, or at a left, right or middle port, with the port's index.
+// `NoBend` stands first, so that a line of zeros has none.
 #[derive(Clone, Copy, Debug, PartialEq, Eq)]
 pub enum Bend {
+    NoBend,
     Left(u16),
     Right(u16),
     Middle(u16),
-    NoBend,
 }
 
 // What an entry says of its line: a guide isn't cut, a plain line is cut once, a feeder twice.

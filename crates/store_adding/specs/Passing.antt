@@ -1,5 +1,5 @@
 -- What is known of a call that passes the tests before 25, and how each outcome answers it.
-use Rattle.std.specs.Prelude.{ℕ, ◌+◌, ◌-◌, ◌/◌, ◌<◌, ◌≤◌, ◌≡◌, refl, Bool, true, false, not, List, map, length, Option, Some, None, Ok, Err}
+use Rattle.std.specs.Prelude.{ℕ, suc, ◌+◌, ◌-◌, ◌/◌, ◌<◌, ◌≤◌, ◌≡◌, refl, Bool, true, false, not, List, map, length, Option, Some, None, Ok, Err}
 use Rattle.std.proofs.Common.{sym, ap, ◌∙◌, subst, arith}
 use Rattle.rules.specs.declared.Style.{Style}
 use Rattle.rules.specs.declared.Style.TheVariants.{OneBend, Straight}
@@ -17,7 +17,9 @@ use Rattle.store_links.specs.Arrays.{Arrays, Sized, at_point}
 use Rattle.store_links.specs.Judging.{passes}
 use Rattle.store_links.specs.Placing.{entry_point, spot_of, change_from, all_reach_from, inner_count}
 use Rattle.store_links.specs.Runs.{Within, Distinct}
-use Rattle.store_links.specs.Storing.{code_of, spot_for, judged, with_point, with_counts}
+use Rattle.store_links.specs.Storing.{new_line, spot_for, judged, with_point, with_counts}
+use Rattle.store_tables.specs.declared.Drawing.{Drawing}
+use Rattle.store_tables.specs.Tables.{arrays_in}
 use Rattle.promise.specs.Accepted.{tests_passed}
 use Rattle.store_laws.specs.Tests.{passes_is, run-within, run-distinct}
 use Rattle.store_laws.specs.Reading.{run-size}
@@ -135,26 +137,34 @@ unfolding judged
 judged_by a c es r e = ap (λ j. j >> refuse_if (not (reach_passes c.style (all_reach_from (spot_for c.style a es) a.gap a.ys es 1 (inner_count es)))) NoReach 0) e
 
 -- A refused call leaves everything.
-stays : (a : Arrays) (c : Counts) (es : List ℕ) (f : Refused) → judged a c es ≡ refused f.refusal f.place → Answered a c es a (Err f)
-stays a c es f j = record { answer = rw j; arrays = rw j }
+stays : (d : Drawing) (es : List ℕ) (f : Refused) → judged (arrays_in d.table) d.counts es ≡ refused f.refusal f.place → Answered d es d (Err f)
+stays d es f j = record { answer = rw j; arrays = rw j; counts = rw j }
 
 -- The tests before 25 refuse.
-pub refused-early : (a : Arrays) (c : Counts) (es : List ℕ) (f : Refused) → answer (tests a c es) ≡ Err f → Answered a c es a (Err f)
-refused-early a c es f is = stays a c es f (judged_by a c es (refused f.refusal f.place) (refusing (tests a c es) f is))
+pub refused-early : (d : Drawing) (es : List ℕ) (f : Refused) → answer (tests (arrays_in d.table) d.counts es) ≡ Err f → Answered d es d (Err f)
+refused-early d es f is =
+    let a = arrays_in d.table in
+    stays d es f (judged_by a d.counts es (refused f.refusal f.place) (refusing (tests a d.counts es) f is))
 
 -- Straight lines have no port, so they are stored alike wherever ports change.
-codes_alike : (τ : Style) → τ ≡ Straight → (rights lefts last f g : ℕ) → code_of τ rights lefts last f ≡ code_of τ rights lefts last g
-codes_alike OneBend b rights lefts last f g = absurd (let z : ◌≡◌ {A = ℕ} 0 1 = cc in omega arith)
-codes_alike Straight b rights lefts last f g = refl
+lines_alike : (τ : Style) → τ ≡ Straight → (v rights lefts f g : ℕ) (es : List ℕ) → new_line τ v rights lefts f es ≡ new_line τ v rights lefts g es
+lines_alike OneBend b v rights lefts f g es = absurd (let z : ◌≡◌ {A = ℕ} 0 1 = cc in omega arith)
+lines_alike Straight b v rights lefts f g es = refl
 
 stored-alike : (a : Arrays) (c : Counts) (es : List ℕ) (p : Spot) → c.style ≡ Straight → (f g : ℕ) → with_point a c es p f ≡ with_point a c es p g
 unfolding with_point
 stored-alike a c es p b f g =
     let rights = taken c.style (at_point a.drs (entry_point es 0)) in
     let lefts = taken c.style (at_point a.dls (entry_point es (length es - 1))) in
-    rw (codes_alike c.style b rights lefts (length es - 1) f g)
+    rw (lines_alike c.style b (suc c.k) rights lefts f g es)
 
-module _ (a : Arrays) (c : Counts) (es : List ℕ) (o : Spot) (all_good : tests a c es ≡ good tt) (at : o ≡ spot_for c.style a es) where
+module _ (d : Drawing) (es : List ℕ) (o : Spot) (all_good : tests (arrays_in d.table) d.counts es ≡ good tt) (at : o ≡ spot_for d.counts.style (arrays_in d.table) es) where
+  abbrev a : Arrays
+  a = arrays_in d.table
+
+  abbrev c : Counts
+  c = d.counts
+
   -- where the ports change, and 25, by the spot that the code computed
   abbrev pub change : ℕ
   change = change_from o a.gap a.ys es 1 (inner_count es)
@@ -166,8 +176,8 @@ module _ (a : Arrays) (c : Counts) (es : List ℕ) (o : Spot) (all_good : tests 
   reach_by b e = judged_by a c es (good tt) all_good ∙ rw (sym e, at)
 
   -- 25 refuses, which it does only where lines bend.
-  pub refused-late : (r : Option ℕ) → r ≡ ports_by c.style (length es - 1) change all → r ≡ None → Answered a c es a (Err (refusal_at NoReach 0))
-  refused-late r e q = stays a c es (refusal_at NoReach 0) (reach_by false (told c.style (sym e ∙ q)))
+  pub refused-late : (r : Option ℕ) → r ≡ ports_by c.style (length es - 1) change all → r ≡ None → (f : Refused) → f ≡ refusal_at NoReach 0 → Answered d es d (Err f)
+  refused-late r e q f is = rw is (stays d es (refusal_at NoReach 0) (reach_by false (told c.style (sym e ∙ q))))
     where
       told : (τ : Style) → ports_by τ (length es - 1) change all ≡ None → reach_passes τ all ≡ false
       told OneBend h = none_told change all h
@@ -175,11 +185,11 @@ module _ (a : Arrays) (c : Counts) (es : List ℕ) (o : Spot) (all_good : tests 
 
   -- The call is accepted.
   pub accepts : (r : Option ℕ) → r ≡ ports_by c.style (length es - 1) change all → (from : ℕ) → r ≡ Some from →
-      (a' : Arrays) → a' ≡ with_point a c es o from → (n : Counts) → n ≡ with_counts c (length es) → Answered a c es a' (Ok n)
-  accepts r e from q a' stored n counted =
+      (d' : Drawing) → arrays_in d'.table ≡ with_point a c es o from → d'.counts ≡ with_counts c (length es) → Answered d es d' (Ok tt)
+  accepts r e from q d' stored counted =
       let t = told c.style refl (sym e ∙ q) in
       let j : judged a c es ≡ good tt = reach_by true t.0 in
-      record { answer = rw j (ap Ok counted); arrays = rw j (stored ∙ t.1 ∙ rw at) }
+      record { answer = rw j; arrays = rw j (stored ∙ t.1 ∙ rw at); counts = rw j counted }
     where
       told : (τ : Style) → c.style ≡ τ → ports_by τ (length es - 1) change all ≡ Some from → (reach_passes τ all ≡ true) × (with_point a c es o from ≡ with_point a c es o change)
       told OneBend b h = let t = from_told change from all h in (t.0, ap (with_point a c es o) t.1)

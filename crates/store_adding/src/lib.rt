@@ -1,26 +1,27 @@
-// One adding call on the lent table: tested, placed, stored. Work for its run and its lines, and nothing else.
-// For the crates above: it asks for the table of a drawing, which they have.
+// One adding call on the lent drawing: tested, placed, stored. Work for its run and its lines, and nothing else.
+// For the crates above: it asks for a stored drawing, which they have.
 #![tactic(auto)]
 
-ghost use Rattle.std.specs.Prelude.{◌≡◌, pred, ◌-◌, ◌<◌, length};
+ghost use Rattle.std.specs.Prelude.{◌≡◌, ◌-◌, ◌<◌, length};
 ghost use Rattle.store_links.specs.Placing.{entry_point, change_from, all_reach_from, inner_count};
 ghost use Rattle.store_links.specs.Runs.{Within};
 ghost use Rattle.store_links.specs.Storing.{spot_for};
 ghost use Rattle.store_tables.specs.Tables.{arrays_in};
-ghost use Rattle.store_laws.specs.Adding.{Ready};
+ghost use Rattle.store_tables.specs.Columns.{point_at};
+ghost use Rattle.store_laws.specs.Stored.{Stored};
 ghost use Rattle.store_placing.specs.Small.{Small};
 ghost use Rattle.store_adding.specs.Calls.{Runs, ports_by, Answered};
 
 use rules::{Answer, Refusal, Style};
-use store_links::{Counts, Spot};
-use store_tables::Table;
+use store_links::Spot;
+use store_tables::{Drawing, Point, Table};
 
-// The index at which the arrays keep the point of entry i.
-fn index_at(e: &[u16], i: usize) -> usize
+// The point of entry i, as the table keeps it.
+fn point_of(e: &[u16], i: usize, table: &Table) -> Point
     requires { (i < length e.now) × Within 1024 e.now }
-    ensures { (result ≡ pred (entry_point e.now i)) × (result < 1024) }
+    ensures { result ≡ point_at (arrays_in table.now) (entry_point e.now i) }
 {
-    words::point_of(e[i]) - 1
+    table.point(words::point_of(e[i]))
 }
 
 // Where the new point goes, over the run of the entries.
@@ -28,18 +29,10 @@ fn spot_over(style: Style, e: &[u16], table: &Table) -> Spot
     requires { Runs e.now (arrays_in table.now) }
     ensures { result ≡ spot_for style (arrays_in table.now) e.now }
 {
-    let wl = index_at(e, 0);
-    let wr = index_at(e, e.len() - 1);
-    let far = store_placing::way_over(e, &table.gap);
-    store_placing::spot_of(
-        style,
-        far,
-        table.ys[wl],
-        table.ys[wr],
-        table.drs[wl],
-        table.dls[wr],
-        e.len(),
-    )
+    let wl = point_of(e, 0, table);
+    let wr = point_of(e, e.len() - 1, table);
+    let far = store_placing::way_over(e, table);
+    store_placing::spot_of(style, far, wl.y, wr.y, wl.dr, wr.dl, e.len())
 }
 
 // From which index on the inner points take the next middle port, or none, which is 25. Straight lines take no port: nothing is tested, and any index does.
@@ -51,21 +44,22 @@ fn ports_over(style: Style, e: &[u16], table: &Table, p: Spot) -> Option<usize>
     let Style::OneBend = style else {
         return Some(e.len() - 1);
     };
-    store_placing::ports_of(p, &table.gap, &table.ys, e)
+    store_placing::ports_of(p, table, e)
 }
 
-// Adds a point with the entries e as its earlier neighbours, and gives the numbers after it; or refuses and leaves the table as it is.
-pub fn add(table: &mut Table, c: Counts, e: &[u16]) -> Answer<Counts>
-    requires { Ready (arrays_in table.old) c }
-    ensures { Answered (arrays_in table.old) c e.now (arrays_in table.new) result }
+// Adds a point with the entries e as its earlier neighbours; or refuses and leaves the drawing as it is.
+pub fn add(d: &mut Drawing, e: &[u16]) -> Answer<()>
+    requires { Stored d.old }
+    ensures { Answered d.old e.now d.new result }
 {
-    store_judging::judge(e, &table.owner, &table.next, c)?;
-    let style = c.style;
-    let p = spot_over(style, e, table);
-    let ports = ports_over(style, e, table, p);
+    store_judging::judge(e, d)?;
+    let style = d.counts.style;
+    let p = spot_over(style, e, &d.table);
+    let ports = ports_over(style, e, &d.table, p);
     let Some(from) = ports else {
         return Err(Refusal::NoReach.at(0));
     };
-    store_calls::store(table, c, e, p, from);
-    Ok(store_links::counts_with(c, e.len()))
+    store_calls::store(d, e, p, from);
+    d.counts = store_links::counts_with(d.counts, e.len());
+    Ok(())
 }

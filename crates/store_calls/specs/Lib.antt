@@ -1,2 +1,1 @@
 pub mod Storable
-pub mod Stages

@@ -11,3 +11,4 @@ pub mod Hanging
 pub mod LinesKept
 pub mod Step
 pub mod Adding
+pub mod Stored

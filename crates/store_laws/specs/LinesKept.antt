@@ -1,15 +1,13 @@
 -- The lines after an accepted call: the old ones as they were stored, and behind them one for each entry.
 use Prim.Native.Nat.{ℕ, zero, suc, pred, ◌+◌, ◌-◌, ◌<◌}
-use Rattle.std.specs.Prelude.{◌≡◌, refl, List, [], ◌∷◌, ◌++◌, map, length}
+use Rattle.std.specs.Prelude.{◌≡◌, refl, List, [], ◌∷◌, ◌++◌, map, length, take}
 use Rattle.std.proofs.Math.Path.{ap}
-use Rattle.std.proofs.Common.{sym, ◌∙◌, le_of_suc-le-suc, not-suc-le-zero, add-zero, add-suc, suc-add, zero-add, arith, get_or-append-add}
+use Rattle.std.proofs.Common.{sym, ◌∙◌, le_of_suc-le-suc, not-suc-le-zero, add-zero, add-suc, suc-add, zero-add, arith, get_or-append-add, get_or-take, ext_get_or, length-take-le}
 use Rattle.std.proofs.Math.Decide.{dec_lt}
 use Rattle.std.proofs.Math.ListN.{get_or, get_or-append}
 use Rattle.std.proofs.lemmas.List.{length-map}
-use Rattle.rules.specs.declared.Kind.TheVariants.{Guide}
 use Rattle.rules.specs.declared.Line.{Line}
 use Rattle.rules.specs.declared.Bend.{Bend}
-use Rattle.rules.specs.declared.Bend.TheVariants.{NoBend}
 use Rattle.rules.specs.Basics.{nth, alter}
 use Rattle.rules.specs.Styles.{taken, bent}
 use Rattle.rules.specs.Points.{Drawing, dl_of, dr_of, w, line_at}
@@ -18,25 +16,17 @@ use Rattle.rules.proofs.Lengths.{length-call, first_at}
 use Rattle.rules.specs.Adding.{points_of, new_lines, new_bend, D}
 use Rattle.store_links.specs.declared.Spot.{Spot}
 use Rattle.store_links.specs.declared.Counts.{Counts}
-use Rattle.store_links.specs.Codes.{bend_code}
 use Rattle.store_links.specs.Arrays.{Arrays, at_point}
 use Rattle.store_links.specs.Placing.{entry_point}
-use Rattle.store_links.specs.Storing.{code_of, filled, with_point}
+use Rattle.store_links.specs.Opening.{no_line}
+use Rattle.store_links.specs.Storing.{line_of, new_line, filled, with_point}
 use Rattle.promise.specs.Next.{next}
 use Rattle.promise.specs.Lined.{length-lines, alter_at}
 use Rattle.promise.specs.Lines.{change_of}
-use Rattle.store_laws.specs.Puts.{filled_in, filled_out}
+use Rattle.store_laws.specs.Puts.{length-filled, filled_in, filled_out}
 use Rattle.store_laws.specs.Points.{Call, after, first_w, last_w, lm, w_low}
 
 -- ---- plain lists
-
--- the line of the entry that is the number e, to the new point, with a bend
-abbrev line_of : ℕ → Bend → ℕ → Line
-line_of new b e = record { later = new; earlier = (entry_of e).point; bend = b; kind = (entry_of e).kind }
-
--- what `line_at` gives where there is no line
-abbrev no_line : Line
-no_line = record { later = 0; earlier = 0; bend = NoBend; kind = Guide }
 
 -- The new lines, read by index.
 get_d_new : (new : ℕ) (f : ℕ → Bend) (q : ℕ) (es : List ℕ) (i : ℕ) (z : Line) → i < length es →
@@ -98,46 +88,16 @@ module _ {d : Drawing} {a : Arrays} {c : Counts} {es : List ℕ} {l r : ℕ} {p 
       new : List Line
       new = new_lines (suc d.k) (new_bends d es l r) 0 (map entry_of es)
 
-  -- ---- what the arrays hold
+  -- ---- what the array holds
 
-  -- An array keeps the numbers of the old lines.
-  old_number : (f : ℕ → ℕ) (t : List ℕ) (e : ℕ) → e < length d.lines → get_or (filled f t c.lines (length es)) e 0 ≡ get_or t e 0
-  old_number f t e b = filled_out f t c.lines (length es) e (omega (arith, h.stores.lines))
-
-  -- Behind them stand those of the entries.
-  new_number : (f : ℕ → ℕ) (t : List ℕ) (e i : ℕ) → length t ≡ 3072 → i < length es → e ≡ length d.lines + i → get_or (filled f t c.lines (length es)) e 0 ≡ f i
-  new_number f t e i b ib s =
-      let u : e ≡ c.lines + i = omega (arith, h.stores.lines) in
-      rw u (filled_in f t c.lines (length es) i (omega (arith, h.fits, h.stores.lines)) ib)
-
-  -- The later points are the next drawing's.
-  pub later_kept : (e : ℕ) → e < length (after d es l r).lines → get_or (with_point a c es p from).later e 0 ≡ (line_at (after d es l r) e).later
-  unfolding with_point
-  later_kept e b = go (seen e b)
-    where
-      go : Seen d es l r e → get_or (filled (λ i. suc c.k) a.later c.lines (length es)) e 0 ≡ (line_at (after d es l r) e).later
-      go (was k t) = old_number (λ i. suc c.k) a.later e k ∙ h.stores.later e k ∙ ap (λ (u : Line). u.later) (sym t)
-      go (comes i ib s t) =
-          new_number (λ i. suc c.k) a.later e i h.sized.later ib s ∙ ap suc h.stores.k ∙ ap (λ (u : Line). u.later) (sym t)
-
-  -- The entries are the next drawing's.
-  pub entry_kept : (e : ℕ) → e < length (after d es l r).lines →
-      entry_of (get_or (with_point a c es p from).words e 0) ≡ record { point = (line_at (after d es l r) e).earlier; kind = (line_at (after d es l r) e).kind }
-  unfolding with_point
-  entry_kept e b = go (seen e b)
-    where
-      go : Seen d es l r e →
-          entry_of (get_or (filled (λ i. get_or es i 0) a.words c.lines (length es)) e 0) ≡ record { point = (line_at (after d es l r) e).earlier; kind = (line_at (after d es l r) e).kind }
-      go (was k t) = rw (old_number (λ i. get_or es i 0) a.words e k, t) (h.stores.entry e k)
-      go (comes i ib s t) = rw (new_number (λ i. get_or es i 0) a.words e i h.sized.words ib s, t)
-
-  -- The code's bend of entry i is the number of the rules' bend.
-  code_kept : (i : ℕ) → code_of c.style (taken c.style (at_point a.drs (entry_point es 0))) (taken c.style (at_point a.dls (entry_point es (length es - 1)))) (length es - 1) from i ≡ bend_code (new_bends d es l r i)
-  code_kept i =
+  -- The new lines are the rules' of the entries.
+  new_is : (i : ℕ) → new_line c.style (suc c.k) (taken c.style (at_point a.drs (entry_point es 0))) (taken c.style (at_point a.dls (entry_point es (length es - 1)))) from es i ≡ line_of (suc d.k) (new_bends d es l r i) (get_or es i 0)
+  new_is i =
       let u = w_low h l (lm h) in
       let v = w_low h r h.run.rm in
       rw (
         h.stores.style,
+        h.stores.k,
         first_w h,
         last_w h,
         first_at a.drs d.drs d.k (pred (w d l)) h.stores.drs (omega arith),
@@ -145,14 +105,29 @@ module _ {d : Drawing} {a : Arrays} {c : Counts} {es : List ℕ} {l r : ℕ} {p 
         h.spotted.change,
       )
 
-  -- The bends are the next drawing's.
-  pub bend_kept : (e : ℕ) → e < length (after d es l r).lines → get_or (with_point a c es p from).bends e 0 ≡ bend_code (line_at (after d es l r) e).bend
+  -- The lines are the next drawing's.
+  pub lines_kept : take (length (after d es l r).lines) (with_point a c es p from).lines ≡ (after d es l r).lines
   unfolding with_point
-  bend_kept e b = go (seen e b)
+  lines_kept =
+      ext_get_or no_line _ _ first
+      (λ e b. let t : e < total = omega (arith, b, first) in get_or-take total lines e no_line t ∙ go e (seen e t))
     where
-      code : ℕ → ℕ
-      code = code_of c.style (taken c.style (at_point a.drs (entry_point es 0))) (taken c.style (at_point a.dls (entry_point es (length es - 1)))) (length es - 1) from
+      total : ℕ
+      total = length (after d es l r).lines
 
-      go : Seen d es l r e → get_or (filled code a.bends c.lines (length es)) e 0 ≡ bend_code (line_at (after d es l r) e).bend
-      go (was k t) = old_number code a.bends e k ∙ h.stores.bend e k ∙ ap (λ (u : Line). bend_code u.bend) (sym t)
-      go (comes i ib s t) = new_number code a.bends e i h.sized.bends ib s ∙ code_kept i ∙ ap (λ (u : Line). bend_code u.bend) (sym t)
+      new : ℕ → Line
+      new = new_line c.style (suc c.k) (taken c.style (at_point a.drs (entry_point es 0))) (taken c.style (at_point a.dls (entry_point es (length es - 1)))) from es
+
+      lines : List Line
+      lines = filled new a.lines c.lines (length es)
+
+      first : length (take total lines) ≡ total
+      first = length-take-le total lines (omega (arith, count_after, h.fits, length-filled new a.lines c.lines (length es), h.sized.lines))
+
+      go : (e : ℕ) → Seen d es l r e → get_or lines e no_line ≡ line_at (after d es l r) e
+      go e (was k t) =
+          filled_out new a.lines c.lines (length es) e no_line (omega (arith, h.stores.lines)) ∙
+          sym (get_or-take (length d.lines) a.lines e no_line k) ∙ ap (λ (q : List Line). get_or q e no_line) h.stores.drawn ∙ sym t
+      go e (comes i ib s t) =
+          let u : e ≡ c.lines + i = omega (arith, h.stores.lines) in
+          ap (λ (n : ℕ). get_or lines n no_line) u ∙ filled_in new a.lines c.lines (length es) i no_line (omega (arith, h.fits, h.sized.lines, h.stores.lines)) ib ∙ new_is i ∙ sym t

@@ -1,17 +1,20 @@
 -- The arrays as opened store the drawing as opened.
 use Prim.Native.Nat.{ℕ, zero, suc, ◌<◌, ◌≤◌, ◌+◌}
-use Rattle.std.specs.Prelude.{◌≡◌, get_or}
+use Rattle.std.specs.Prelude.{◌≡◌, take, [], ◌∷◌}
 use Rattle.std.proofs.Math.Path.{refl}
 use native.Mathlib.Omega.{arith}
 use Rattle.rules.specs.declared.Style.{Style}
 use Rattle.rules.specs.declared.Style.TheVariants.{OneBend, Straight}
 use Rattle.rules.specs.declared.Kind.{Kind}
-use Rattle.rules.specs.Styles.{second_x, third_x}
+use Rattle.rules.specs.declared.Bend.{Bend}
+use Rattle.rules.specs.declared.Bend.TheVariants.{Left, Right, NoBend}
+use Rattle.rules.specs.declared.Entry.{Entry}
+use Rattle.rules.specs.declared.Line.{Line}
+use Rattle.rules.specs.Styles.{second_x, third_x, bent}
 use Rattle.rules.specs.Readings.{entry_of}
-use Rattle.rules.specs.Points.{Drawing, x_of, owner_of, w, line_at, start}
-use Rattle.store_links.specs.Codes.{bend_code}
+use Rattle.rules.specs.Points.{Drawing, x_of, owner_of, w, start}
 use Rattle.store_links.specs.Arrays.{Sized, Stores, at_point, gap_offset}
-use Rattle.store_links.specs.Opening.{open_arrays, open_counts}
+use Rattle.store_links.specs.Opening.{open_arrays, open_counts, three_lines}
 
 -- Point 3 stands as far from point 1 as from point 2.
 halfway : (τ : Style) → second_x τ ≡ third_x τ + third_x τ
@@ -24,7 +27,7 @@ module _ (τ : Style) (n s : ℕ) (c1 c2 c3 : Kind) (a b c : ℕ) where
 
   pub sized_open : Sized (open_arrays τ a b c)
   unfolding open_arrays
-  sized_open = record { next = refl; gap = refl; owner = refl; ys = refl; dls = refl; drs = refl; hs = refl; words = refl; later = refl; bends = refl }
+  sized_open = record { next = refl; gap = refl; owner = refl; ys = refl; dls = refl; drs = refl; hs = refl; lines = refl }
 
   module _ (h1 : entry_of a ≡ record { point = 1; kind = c1 }) (h2 : entry_of b ≡ record { point = 1; kind = c2 }) (h3 : entry_of c ≡ record { point = 2; kind = c3 }) where
     link : (i : ℕ) → suc i < 3 → at_point (open_arrays τ a b c).next (w d i) ≡ w d (suc i)
@@ -45,26 +48,11 @@ module _ (τ : Style) (n s : ℕ) (c1 c2 c3 : Kind) (a b c : ℕ) where
     hang (suc (suc zero)) o h q = absurd (omega (arith, q))
     hang (suc (suc (suc p))) o h q = absurd (omega arith)
 
-    later : (e : ℕ) → e < 3 → get_or (open_arrays τ a b c).later e 0 ≡ (line_at d e).later
-    unfolding open_arrays
-    later zero h = refl
-    later (suc zero) h = refl
-    later (suc (suc zero)) h = refl
-    later (suc (suc (suc e))) h = absurd (omega arith)
-
-    entry : (e : ℕ) → e < 3 → entry_of (get_or (open_arrays τ a b c).words e 0) ≡ record { point = (line_at d e).earlier; kind = (line_at d e).kind }
-    unfolding open_arrays
-    entry zero h = h1
-    entry (suc zero) h = h2
-    entry (suc (suc zero)) h = h3
-    entry (suc (suc (suc e))) h = absurd (omega arith)
-
-    bend : (e : ℕ) → e < 3 → get_or (open_arrays τ a b c).bends e 0 ≡ bend_code (line_at d e).bend
-    unfolding open_arrays
-    bend zero h = refl
-    bend (suc zero) h = refl
-    bend (suc (suc zero)) h = refl
-    bend (suc (suc (suc e))) h = absurd (omega arith)
+    drawn : take 3 (three_lines τ a b c) ≡ d.lines
+    drawn = λ i. line 2 NoBend (h1 i) ∷ line 3 (bent τ (Right 1)) (h2 i) ∷ line 3 (bent τ (Left 1)) (h3 i) ∷ []
+      where
+        line : ℕ → Bend → Entry → Line
+        line v b e = record { later = v; earlier = e.point; bend = b; kind = e.kind }
 
     pub stores_open : Stores d (open_arrays τ a b c) (open_counts τ n s)
     unfolding open_arrays
@@ -85,7 +73,5 @@ module _ (τ : Style) (n s : ℕ) (c1 c2 c3 : Kind) (a b c : ℕ) where
           last = refl;
           step = step;
           hang = hang;
-          later = later;
-          entry = entry;
-          bend = bend;
+          drawn = drawn;
         }

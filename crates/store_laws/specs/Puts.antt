@@ -108,27 +108,28 @@ module _ (es : List ℕ) (k i : ℕ) (h : Within k es) (b : i < length es) where
 
 -- ---- new lines
 
--- The array keeps its length.
-pub length-filled : (f : ℕ → ℕ) (l : List ℕ) (at i : ℕ) → length (filled f l at i) ≡ length l
-unfolding filled
-length-filled f l at zero = refl
-length-filled f l at (suc i) = length-set (filled f l at i) (at + i) (f i) ∙ length-filled f l at i
+module _ {A : Type 0} (f : ℕ → A) (l : List A) (at : ℕ) where
+  -- The array keeps its length.
+  pub length-filled : (i : ℕ) → length (filled f l at i) ≡ length l
+  unfolding filled
+  length-filled zero = refl
+  length-filled (suc i) = length-set (filled f l at i) (at + i) (f i) ∙ length-filled i
 
--- Before `at` every number stays.
-pub filled_out : (f : ℕ → ℕ) (l : List ℕ) (at i e : ℕ) → e < at → get_or (filled f l at i) e 0 ≡ get_or l e 0
-unfolding filled
-filled_out f l at zero e h = refl
-filled_out f l at (suc i) e h = get_or-set_other (filled f l at i) (at + i) e (f i) 0 (omega arith) ∙ filled_out f l at i e h
+  -- Before `at` everything stays.
+  pub filled_out : (i e : ℕ) (z : A) → e < at → get_or (filled f l at i) e z ≡ get_or l e z
+  unfolding filled
+  filled_out zero e z h = refl
+  filled_out (suc i) e z h = get_or-set_other (filled f l at i) (at + i) e (f i) z (omega arith) ∙ filled_out i e z h
 
--- From there on stand f 0, f 1, ..
-pub filled_in : (f : ℕ → ℕ) (l : List ℕ) (at i j : ℕ) → at + i ≤ length l → j < i → get_or (filled f l at i) (at + j) 0 ≡ f j
-unfolding filled
-filled_in f l at zero j t h = absurd (omega arith)
-filled_in f l at (suc i) j t h = go (filled_in f l at i j (omega arith))
-  where
-    go : (j < i → get_or (filled f l at i) (at + j) 0 ≡ f j) → get_or (filled f l at (suc i)) (at + j) 0 ≡ f j
-    go ih =
-        elim (ℕ_discrete j i) [
-          | yes e ↦ rw e (get_or-set_same (filled f l at i) (at + i) (f i) 0 (omega (arith, length-filled f l at i)))
-          | no e ↦ get_or-set_other (filled f l at i) (at + i) (at + j) (f i) 0 (omega arith) ∙ ih (omega arith)
-        ]
+  -- From there on stand f 0, f 1, ..
+  pub filled_in : (i j : ℕ) (z : A) → at + i ≤ length l → j < i → get_or (filled f l at i) (at + j) z ≡ f j
+  unfolding filled
+  filled_in zero j z t h = absurd (omega arith)
+  filled_in (suc i) j z t h = go (filled_in i j z (omega arith))
+    where
+      go : (j < i → get_or (filled f l at i) (at + j) z ≡ f j) → get_or (filled f l at (suc i)) (at + j) z ≡ f j
+      go ih =
+          elim (ℕ_discrete j i) [
+            | yes e ↦ rw e (get_or-set_same (filled f l at i) (at + i) (f i) z (omega (arith, length-filled i)))
+            | no e ↦ get_or-set_other (filled f l at i) (at + i) (at + j) (f i) z (omega arith) ∙ ih (omega arith)
+          ]

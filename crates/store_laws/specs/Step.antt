@@ -1,5 +1,5 @@
 -- An accepted adding call keeps the arrays true to the drawing: what the code stores is the next drawing of the rules.
-use Rattle.std.specs.Prelude.{ℕ, suc, ◌+◌, ◌-◌, ◌<◌, ◌≤◌, ◌≡◌, refl, List, map, length, get_or}
+use Rattle.std.specs.Prelude.{ℕ, suc, ◌+◌, ◌-◌, ◌<◌, ◌≤◌, ◌≡◌, refl, List, map, length}
 use Rattle.std.proofs.Common.{ap, sym, ◌∙◌, arith}
 use Rattle.std.proofs.lemmas.List.{length-map}
 use Rattle.rules.specs.Styles.{taken}
@@ -10,7 +10,7 @@ use Rattle.store_links.specs.declared.Counts.{Counts}
 use Rattle.store_links.specs.Arrays.{Arrays, Sized, Stores, at_point}
 use Rattle.store_links.specs.Placing.{entry_point, inner_count}
 use Rattle.store_links.specs.Runs.{Within, Distinct}
-use Rattle.store_links.specs.Storing.{put_at, covered_gaps, covered_owners, code_of, with_point, with_counts}
+use Rattle.store_links.specs.Storing.{put_at, covered_gaps, covered_owners, new_line, with_point, with_counts}
 use Rattle.promise.specs.Sound.{Sound}
 use Rattle.promise.specs.Next.{IsRun, next}
 use Rattle.promise.specs.Columns.{style_next, k_next}
@@ -21,7 +21,7 @@ use Rattle.store_laws.specs.Puts.{length-put, length-gaps, length-owners, length
 use Rattle.store_laws.specs.Points.{Call, after, size, ys_kept, hs_kept, dls_kept, drs_kept, owner_kept}
 use Rattle.store_laws.specs.Links.{link_kept, last_kept, step_kept}
 use Rattle.store_laws.specs.Hanging.{hang_kept}
-use Rattle.store_laws.specs.LinesKept.{count_after, later_kept, entry_kept, bend_kept}
+use Rattle.store_laws.specs.LinesKept.{count_after, lines_kept}
 
 -- ---- lengths
 
@@ -46,9 +46,7 @@ sized_with a c es p from z =
       dls = length_two a.dls v 0 wr lefts 1024 z.dls;
       drs = length_two a.drs v 0 wl rights 1024 z.drs;
       hs = length-put a.hs v p.h ∙ z.hs;
-      words = length-filled (λ i. get_or es i 0) a.words c.lines (length es) ∙ z.words;
-      later = length-filled (λ i. v) a.later c.lines (length es) ∙ z.later;
-      bends = length-filled (code_of c.style rights lefts (length es - 1) from) a.bends c.lines (length es) ∙ z.bends;
+      lines = length-filled (new_line c.style v rights lefts from es) a.lines c.lines (length es) ∙ z.lines;
     }
 
 -- ---- the theorem
@@ -87,9 +85,7 @@ stores-call {d} {a} {c} {es} {l} {r} {p} {from} h =
       last = last_kept h;
       step = step_kept h;
       hang = hang_kept h;
-      later = later_kept h;
-      entry = entry_kept h;
-      bend = bend_kept h;
+      drawn = lines_kept h;
     }
 
 -- An accepted adding call keeps the arrays true to the drawing.

@@ -1,33 +1,11 @@
-// A line, read back from the lent table; and the ports of a point, at which lines bend.
-// For the crates above: it asks for a line that is there, and for ports that lie within 16 bits.
+// The ports of a point, at which lines bend.
+// For the crates above: it asks for ports that lie within 16 bits.
 #![tactic(auto)]
 
 ghost use Rattle.std.specs.Prelude.{◌≡◌, ◌+◌, ◌-◌, ◌<◌, ◌≤◌};
 ghost use Rattle.rules.specs.Points.{at};
-ghost use Rattle.store_tables.specs.Tables.{arrays_in};
-ghost use Rattle.store_lines.specs.Lines.{line_in};
 
-use rules::{Line, Place};
-use store_links::bend_from;
-use store_tables::Table;
-
-// Line e of the table.
-pub fn line_in(table: &Table, e: usize) -> Line
-    requires { e < 3072 }
-    ensures { result ≡ line_in (arrays_in table.now) e }
-{
-    let word = table.words[e];
-    let later = table.later[e];
-    let x = words::entry_of(word);
-    let kind = x.kind;
-    let bend = bend_from(table.bends[e]);
-    Line {
-        later,
-        earlier: x.point,
-        bend,
-        kind,
-    }
-}
+use rules::Place;
 
 // Left port j of a point at (x, y) with dl left ports.
 pub fn left_port(x: u16, y: u16, dl: u16, j: u16) -> Place

@@ -1,9 +1,8 @@
 -- The arrays that keep a drawing, as lists. Point p stands at index p - 1, line e at index e.
 use Rattle.std.specs.Prelude.{ℕ, suc, pred, ◌+◌, ◌<◌, ◌≤◌, ◌≡◌, List, length, get_or, take}
-use Rattle.rules.specs.Readings.{entry_of}
-use Rattle.rules.specs.Points.{Drawing, x_of, owner_of, w, m, line_at}
+use Rattle.rules.specs.declared.Line.{Line}
+use Rattle.rules.specs.Points.{Drawing, x_of, owner_of, w, m}
 use Rattle.store_links.specs.declared.Counts.{Counts}
-use Rattle.store_links.specs.Codes.{bend_code}
 
 -- what is added to a covered point's distance from its owner, which may lie on either side of it
 abbrev pub gap_offset : ℕ
@@ -11,7 +10,7 @@ gap_offset = 32768
 
 -- next: of a boundary point the next one, of point 2 (the last) 0.
 -- gap: of a boundary point its x less the x of the one before it; of a covered point its x less its owner's x, plus the offset.
--- words and later: a line's entry as its 16-bit number, and its later point. bends: its bend as a number.
+-- lines: the lines, as the rules have them.
 pub record Arrays : Type 0 where
   pub next : List ℕ
   pub gap : List ℕ
@@ -20,13 +19,11 @@ pub record Arrays : Type 0 where
   pub dls : List ℕ
   pub drs : List ℕ
   pub hs : List ℕ
-  pub words : List ℕ
-  pub later : List ℕ
-  pub bends : List ℕ
+  pub lines : List Line
 
--- the ten arrays, in their order
-abbrev pub arrays_of : List ℕ → List ℕ → List ℕ → List ℕ → List ℕ → List ℕ → List ℕ → List ℕ → List ℕ → List ℕ → Arrays
-arrays_of next gap owner ys dls drs hs words later bends =
+-- the eight arrays, in their order
+abbrev pub arrays_of : List ℕ → List ℕ → List ℕ → List ℕ → List ℕ → List ℕ → List ℕ → List Line → Arrays
+arrays_of next gap owner ys dls drs hs lines =
     record {
       next = next;
       gap = gap;
@@ -35,9 +32,7 @@ arrays_of next gap owner ys dls drs hs words later bends =
       dls = dls;
       drs = drs;
       hs = hs;
-      words = words;
-      later = later;
-      bends = bends;
+      lines = lines;
     }
 
 -- room for 1,024 points and 3,072 lines
@@ -49,9 +44,7 @@ pub record Sized (a : Arrays) : Type 0 where
   pub dls : length a.dls ≡ 1024
   pub drs : length a.drs ≡ 1024
   pub hs : length a.hs ≡ 1024
-  pub words : length a.words ≡ 3072
-  pub later : length a.later ≡ 3072
-  pub bends : length a.bends ≡ 3072
+  pub lines : length a.lines ≡ 3072
 
 -- a list read at point p
 abbrev pub at_point : List ℕ → ℕ → ℕ
@@ -77,6 +70,4 @@ pub record Stores (d : Drawing) (a : Arrays) (c : Counts) : Type 0 where
   -- covered points by their owners
   pub hang : (p o : ℕ) → suc p ≤ d.k → owner_of d (suc p) ≡ suc o → x_of d (suc p) + gap_offset ≡ x_of d (suc o) + at_point a.gap (suc p)
   -- the lines
-  pub later : (e : ℕ) → e < length d.lines → get_or a.later e 0 ≡ (line_at d e).later
-  pub entry : (e : ℕ) → e < length d.lines → entry_of (get_or a.words e 0) ≡ record { point = (line_at d e).earlier; kind = (line_at d e).kind }
-  pub bend : (e : ℕ) → e < length d.lines → get_or a.bends e 0 ≡ bend_code (line_at d e).bend
+  pub drawn : take (length d.lines) a.lines ≡ d.lines

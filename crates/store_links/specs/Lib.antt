@@ -1,4 +1,3 @@
-pub mod Codes
 pub mod Arrays
 pub mod Judging
 pub mod Placing

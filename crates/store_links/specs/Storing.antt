@@ -1,16 +1,18 @@
 -- What an accepted call stores: the inner points are covered, the new point is linked in, dr of wl and dl of wr grow where lines take ports, the lines are added.
 use Rattle.std.specs.Prelude.{ℕ, zero, suc, pred, ◌+◌, ◌-◌, not, List, length, get_or, set}
 use Rattle.rules.specs.declared.Style.{Style}
+use Rattle.rules.specs.declared.Bend.{Bend}
+use Rattle.rules.specs.declared.Line.{Line}
 use Rattle.rules.specs.declared.Refusal.TheVariants.{NoReach}
 use Rattle.rules.specs.Refusals.{Result, good, refused, ◌>>◌, refuse_if}
 use Rattle.rules.specs.Styles.{taken, bent, reach_passes}
+use Rattle.rules.specs.Readings.{entry_of}
 use Rattle.rules.specs.Adding.{new_bend}
 use Rattle.store_links.specs.declared.Spot.{Spot}
 use Rattle.store_links.specs.declared.Counts.{Counts}
 use Rattle.store_links.specs.Arrays.{Arrays, at_point, gap_offset}
 use Rattle.store_links.specs.Judging.{passes}
 use Rattle.store_links.specs.Placing.{entry_point, way, spot_of, change_from, all_reach_from, inner_count}
-use Rattle.store_links.specs.Codes.{bend_code}
 
 -- a list with v at point p
 abbrev pub put_at : List ℕ → ℕ → ℕ → List ℕ
@@ -25,12 +27,16 @@ unfoldable pub covered_owners : List ℕ → List ℕ → ℕ → ℕ → List �
 covered_owners owner es v zero = owner
 covered_owners owner es v (suc i) = put_at (covered_owners owner es v i) (entry_point es (suc i)) v
 
--- the bend of entry i's line as a number: wl's new right port, wr's new left port, or a middle port, which change to i + 1 at `from`; none of a straight line
-abbrev pub code_of : Style → ℕ → ℕ → ℕ → ℕ → ℕ → ℕ
-code_of style rights lefts last from i = bend_code (bent style (new_bend rights lefts last from i))
+-- the line of the entry that is the number e, from the later point v, with this bend
+abbrev pub line_of : ℕ → Bend → ℕ → Line
+line_of v b e = record { later = v; earlier = (entry_of e).point; bend = b; kind = (entry_of e).kind }
+
+-- entry i's line from point v: it bends at wl's new right port, wr's new left port, or a middle port, which change to i + 1 at `from`; a straight line nowhere
+abbrev pub new_line : Style → ℕ → ℕ → ℕ → ℕ → List ℕ → ℕ → Line
+new_line style v rights lefts from es i = line_of v (bent style (new_bend rights lefts (length es - 1) from i)) (get_or es i 0)
 
 -- a list with f 0, .., f (i - 1) from index `at` on
-unfoldable pub filled : (ℕ → ℕ) → List ℕ → ℕ → ℕ → List ℕ
+unfoldable pub filled : {A : Type 0} → (ℕ → A) → List A → ℕ → ℕ → List A
 filled f l at zero = l
 filled f l at (suc i) = set (filled f l at i) (at + i) (f i)
 
@@ -50,9 +56,7 @@ with_point a c es p from =
       dls = put_at (put_at a.dls v 0) wr lefts;
       drs = put_at (put_at a.drs v 0) wl rights;
       hs = put_at a.hs v p.h;
-      words = filled (λ i. get_or es i 0) a.words c.lines (length es);
-      later = filled (λ i. v) a.later c.lines (length es);
-      bends = filled (code_of c.style rights lefts (length es - 1) from) a.bends c.lines (length es);
+      lines = filled (new_line c.style v rights lefts from es) a.lines c.lines (length es);
     }
 
 -- the numbers with it

@@ -1,27 +1,16 @@
-// How the running program keeps a drawing: boundary links and gaps, in arrays of 16-bit numbers, which one lent table keeps (crate `store_tables`).
+// How the running program keeps a drawing: boundary links and gaps in arrays of 16-bit numbers, and lines, which one lent table keeps (crate `store_tables`).
 // The structs that its functions pass by value; specs/ says what the arrays hold and what each step does to them.
 #![tactic(auto)]
 
 ghost use Rattle.std.specs.Prelude.{◌≡◌, ◌<◌, ◌≤◌};
 ghost use Rattle.rules.specs.Adding.{new_bend};
-ghost use Rattle.rules.specs.Styles as Styles;
-ghost use Rattle.store_links.specs.Codes.{bend_code, bend_from};
-ghost use Rattle.store_links.specs.Storing.{with_counts};
+ghost use Rattle.store_links.specs.Storing.{line_of, with_counts};
 
-use rules::{Bend, Style};
-use styles::bent;
+use rules::{Bend, Line, Style};
+use words::entry_of;
 
 // What is added to a covered point's distance from its owner, so that a point to the left of it has a gap too.
 pub const GAP_OFFSET: usize = 32768;
-
-// A stored bend: the port's index, and one of these for its kind.
-pub const RIGHT_PORT: u16 = 4096;
-
-pub const LEFT_PORT: u16 = 8192;
-
-pub const MIDDLE_PORT: u16 = 12288;
-
-pub const NO_PORT: u16 = 0;
 
 // What stands beside the arrays: which of the two drawings it is, n and s as opened, k points, m of them on the boundary, and the lines so far.
 #[derive(Clone, Copy, Debug, PartialEq, Eq)]
@@ -80,41 +69,15 @@ pub fn new_bend(rights: u16, lefts: u16, last: usize, from: usize, i: usize) -> 
     }
 }
 
-// The number that stands for a bend in the arrays.
-pub fn bend_code(b: Bend) -> u16
-    requires { bend_code b < 65536 }
-    ensures { result ≡ bend_code b }
+// The line of the entry that is the number e, from the later point v, with this bend.
+pub fn line_of(v: u16, b: Bend, e: u16) -> Line
+    ensures { result ≡ line_of v b e }
 {
-    match b {
-        Bend::Right(j) => RIGHT_PORT + j,
-        Bend::Left(j) => LEFT_PORT + j,
-        Bend::Middle(i) => MIDDLE_PORT + i,
-        Bend::NoBend => NO_PORT,
+    let x = entry_of(e);
+    Line {
+        later: v,
+        earlier: x.point,
+        bend: b,
+        kind: x.kind,
     }
-}
-
-// The number of a line's bend; a straight line has none.
-pub fn line_code(style: Style, b: Bend) -> u16
-    requires { bend_code b < 65536 }
-    ensures { result ≡ bend_code (Styles.bent style b) }
-{
-    let kept = bent(style, b);
-    bend_code(kept)
-}
-
-// The bend that such a number means.
-#[tactic(auto, unfolding(crate::specs::Codes::bend_from))]
-pub fn bend_from(code: u16) -> Bend
-    ensures { result ≡ bend_from code }
-{
-    if MIDDLE_PORT <= code {
-        return Bend::Middle(code - MIDDLE_PORT);
-    }
-    if LEFT_PORT <= code {
-        return Bend::Left(code - LEFT_PORT);
-    }
-    if RIGHT_PORT <= code {
-        return Bend::Right(code - RIGHT_PORT);
-    }
-    Bend::NoBend
 }

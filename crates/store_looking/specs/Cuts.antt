@@ -1,40 +1,30 @@
 -- The first cut line that ends at a point, read from the arrays.
-use Rattle.std.specs.Prelude.{ℕ, ◌<◌, ◌≡◌, refl, Bool, true, false, ◌&&◌, ◌||◌, length, get_or, Option, Some, None, Ok, Err, eqb}
-use Rattle.std.proofs.Common.{sym, ◌∙◌, arith, eq-eqb, ne_eqb}
+use Rattle.std.specs.Prelude.{ℕ, ◌<◌, ◌≡◌, refl, Bool, true, false, ◌&&◌, length, get_or, Option, Some, None, Ok, Err}
+use Rattle.std.proofs.Common.{sym, ◌∙◌, arith}
 use Rattle.std.proofs.Math.Path.{ap}
-use Rattle.rules.specs.declared.Entry.{Entry}
+use Rattle.rules.specs.declared.Line.{Line}
 use Rattle.rules.specs.declared.Refusal.TheVariants.{NoSuch}
 use Rattle.rules.specs.Basics.{between}
 use Rattle.rules.specs.Bools.{both}
 use Rattle.rules.specs.Entries.{is_cut}
-use Rattle.rules.specs.Readings.{entry_of}
 use Rattle.rules.specs.Points.{Drawing as Plan, line_at}
 use Rattle.rules.specs.Demand.{ends_at}
 use Rattle.rules.specs.Lookups.{CutLineAt, LooksCut}
 use Rattle.store_links.specs.declared.Counts.{Counts}
 use Rattle.store_links.specs.Arrays.{Arrays}
+use Rattle.store_links.specs.Opening.{no_line}
 use Rattle.store_laws.specs.Adding.{Holds}
+use Rattle.store_settling.specs.Lines.{line_is}
 use Rattle.rules.specs.Refusals.{refusal_at}
 use Rattle.answers.specs.Told.{told_cut}
 
--- a line with this entry and this later point is cut and ends at p
-abbrev pub cut_to : Entry → ℕ → ℕ → Bool
-cut_to x later p = is_cut x.kind && (eqb later p || eqb x.point p)
-
--- the three ways of the test
-module _ (x : Entry) (later p : ℕ) where
-  pub cut_later : is_cut x.kind ≡ true → later ≡ p → eqb later p ≡ cut_to x later p
-  cut_later a b = rw (a, eq-eqb later p b)
-
-  pub cut_earlier : is_cut x.kind ≡ true → (later ≡ p → ⊥) → eqb x.point p ≡ cut_to x later p
-  cut_earlier a b = rw (a, ne_eqb later p b)
-
-  pub cut_guide : is_cut x.kind ≡ false → is_cut x.kind ≡ cut_to x later p
-  cut_guide a = rw a
+-- a line is cut and ends at p
+abbrev pub cut_to : Line → ℕ → Bool
+cut_to l p = is_cut l.kind && ends_at p l
 
 -- line e of the arrays is
 unfoldable pub cut_at : Arrays → ℕ → ℕ → Bool
-cut_at a p e = cut_to (entry_of (get_or a.words e 0)) (get_or a.later e 0) p
+cut_at a p e = cut_to (get_or a.lines e no_line) p
 
 -- r is the first such line of `lines` lines
 pub record IsFirst (a : Arrays) (lines p r : ℕ) : Type 0 where
@@ -51,9 +41,7 @@ module _ {q : Plan} {a : Arrays} {c : Counts} (h : Holds q a c) (p : ℕ) where
   -- The test on the arrays is the rules' on the drawing.
   cut_is : (e : ℕ) → e < length q.lines → cut_at a p e ≡ (is_cut (line_at q e).kind && ends_at p (line_at q e))
   unfolding cut_at
-  cut_is e el =
-      let t = h.stores.entry e el in
-      rw (h.stores.later e el, ap (λ (x : Entry). x.point) t, ap (λ (x : Entry). x.kind) t)
+  cut_is e el = ap (λ (l : Line). cut_to l p) (line_is h.stores e el)
 
   module _ (is : between 1 c.k p ≡ true) where
     point_there : between 1 q.k p ≡ true

@@ -1,5 +1,5 @@
 -- A line, read from the arrays, is the drawing's; so are its bend and where that lies, where lines bend.
-use Rattle.std.specs.Prelude.{Ok, Err, ℕ, ◌<◌, ◌≤◌, ◌≡◌, List, length}
+use Rattle.std.specs.Prelude.{Ok, Err, ℕ, ◌<◌, ◌≤◌, ◌≡◌, List, length, get_or}
 use Rattle.std.proofs.Common.{sym, ap, ◌∙◌, arith, le-ltb, lt-ltb}
 use Rattle.rules.specs.declared.Style.{Style}
 use Rattle.rules.specs.declared.Style.TheVariants.{OneBend, Straight}
@@ -12,9 +12,9 @@ use Rattle.rules.specs.Lookups.{look_line}
 use Rattle.rules.specs.declared.Refusal.TheVariants.{NoSuch}
 use Rattle.store_links.specs.declared.Counts.{Counts}
 use Rattle.store_links.specs.Arrays.{Arrays}
+use Rattle.store_links.specs.Opening.{no_line}
 use Rattle.store_laws.specs.Adding.{Holds}
 use Rattle.store_settling.specs.Lines.{line_is, ends}
-use Rattle.store_lines.specs.Lines.{line_in}
 use Rattle.store_settling.specs.Placed.{Settled}
 use Rattle.store_settling.specs.Bends.{bend_in, Bendable}
 use Rattle.store_settling.specs.Bending.{Shows, shows_of, bendable_of, bend_right}
@@ -23,12 +23,15 @@ use Rattle.store_looking.specs.Places.{settled-xs}
 use Rattle.answers.specs.Told.{line_seen}
 
 module _ {q : Plan} {a : Arrays} {c : Counts} {xs : List ℕ} (h : Holds q a c) (s : Settled xs a c.k)
-    (e : ℕ) (low : e < c.lines) (l : Line) (is : l ≡ line_in a e) where
+    (e : ℕ) (low : e < c.lines) where
+  abbrev l : Line
+  l = get_or a.lines e no_line
+
   el : e < length q.lines
   el = omega (arith, h.stores.lines)
 
   read : l ≡ line_at q e
-  read = is ∙ line_is h.standing e el h.stores
+  read = line_is h.stores e el
 
   shows : Shows q xs a
   shows = shows_of (settled-xs h s) h.stores

@@ -10,16 +10,17 @@ use Rattle.rules.proofs.Lengths.{first_at}
 use Rattle.store_links.specs.declared.Counts.{Counts}
 use Rattle.store_links.specs.Arrays.{Arrays}
 use Rattle.store_links.specs.Opening.{no_points}
-use Rattle.store_laws.specs.Adding.{Holds, Ready}
+use Rattle.store_laws.specs.Adding.{Holds}
+use Rattle.store_laws.specs.Stored.{Stored}
 use Rattle.store_settling.specs.Placed.{Settleable, Settled, settleable_of, placed_at}
-use Rattle.store_tables.specs.declared.Table.{Table}
+use Rattle.store_tables.specs.declared.Drawing.{Drawing}
 use Rattle.store_tables.specs.Tables.{arrays_in}
 use Rattle.rules.specs.Refusals.{refusal_at}
 use Rattle.answers.specs.Told.{point_seen}
 
--- counts and table hold a drawing, and x is settled
-abbrev pub Looks : Counts → Table → List ℕ → Type 0
-Looks c t x = Ready (arrays_in t) c × Settled x (arrays_in t) c.k
+-- d is stored, and x is settled
+abbrev pub Looks : Drawing → List ℕ → Type 0
+Looks d x = Stored d × Settled x (arrays_in d.table) d.counts.k
 
 -- The arrays of a drawing can be settled, from an array of zeros.
 pub settleable : {q : Plan} {a : Arrays} {c : Counts} → Holds q a c → Settleable no_points a c.k

@@ -1,32 +1,31 @@
-// Look-ups in a lent table that holds a drawing: a point, a line, a cut line.
-// For `drawing`, whose look-ups by value are doors to these, and for `cutter` and `panel_c`, which have such tables.
+// Look-ups in a stored drawing: a point, a line, a cut line.
+// For `drawing`, whose look-ups by value are doors to these, and for `cutter` and `panel_c`, which are lent drawings.
 #![tactic(auto)]
 
 ghost use Rattle.std.specs.Prelude.{◌≡◌, ◌≤◌};
 ghost use Rattle.rules.specs.Basics.{between};
-ghost use Rattle.rules.specs.Readings.{entry_of};
 ghost use Rattle.rules.specs.Points.{Drawing as Plan};
 ghost use Rattle.rules.specs.Lookups.{look_point, look_line, LooksCut};
 ghost use Rattle.answers.specs.Told.{point_seen, line_seen, told_cut};
 ghost use Rattle.store_links.specs.Opening.{no_points};
-ghost use Rattle.store_laws.specs.Adding.{Holds, Ready};
+ghost use Rattle.store_laws.specs.Stored.{Is, Stored};
 ghost use Rattle.store_tables.specs.Tables.{arrays_in};
 ghost use Rattle.store_settling.specs.Placed.{Settleable, Settled};
 ghost use Rattle.store_looking.specs.Places.{Looks};
 ghost use Rattle.store_looking.specs.Cuts.{cut_to, FirstCut};
 
 use answers::LineSeen;
-use rules::{Answer, Place, Refusal, Style};
-use store_links::Counts;
-use store_tables::{POINTS, Table};
+use rules::{Answer, Line, Place, Refusal, Style};
+use store_settling::{View, bend_of};
+use store_tables::{Drawing, POINTS};
 
 // The x of every placed point.
-pub fn settled(table: &Table, k: usize) -> [u16; POINTS]
-    requires { Settleable no_points (arrays_in table.now) k }
-    ensures { Settled result (arrays_in table.now) k }
+pub fn settled(d: &Drawing) -> [u16; POINTS]
+    requires { Settleable no_points (arrays_in d.now.table) d.now.counts.k }
+    ensures { Settled result (arrays_in d.now.table) d.now.counts.k }
 {
     let mut x = [0u16; POINTS];
-    store_settling::settle(&mut x, table, k);
+    store_settling::settle(&mut x, d);
     x
 }
 
@@ -37,57 +36,52 @@ fn is_point(k: usize, p: usize) -> bool
     1 <= p && p <= k
 }
 
-// A point's place, from the table and its settled x.
-pub fn look_point(table: &Table, x: &[u16; POINTS], c: Counts, p: usize) -> Answer<Place>
-    requires { Looks c table.now x.now }
-    ensures { (q : Plan) → Holds q (arrays_in table.now) c → result ≡ point_seen (look_point q p) }
+// A point's place.
+pub fn look_point(view: &View, p: usize) -> Answer<Place>
+    requires { Looks view.now.drawing.now view.now.x.now }
+    ensures { (q : Plan) → Is q view.now.drawing.now → result ≡ point_seen (look_point q p) }
 {
-    if !is_point(c.k, p) {
+    if !is_point(view.drawing.counts.k, p) {
         return Err(Refusal::NoSuch.at(0));
     }
-    let i = p - 1;
     Ok(Place {
-        x: x[i],
-        y: table.ys[i],
+        x: view.x[p - 1],
+        y: view.drawing.table.point(p).y,
     })
 }
 
-// A line with its ends, bend and kind, and where its bend lies, from the table and its settled x. A straight one has no bend.
-pub fn look_line(table: &Table, x: &[u16; POINTS], c: Counts, e: usize) -> Answer<LineSeen>
-    requires { Looks c table.now x.now }
-    ensures { (q : Plan) → Holds q (arrays_in table.now) c → result ≡ line_seen (look_line q e) }
+// A line with its ends, bend and kind, and where its bend lies. A straight one has no bend.
+pub fn look_line(view: &View, e: usize) -> Answer<LineSeen>
+    requires { Looks view.now.drawing.now view.now.x.now }
+    ensures { (q : Plan) → Is q view.now.drawing.now → result ≡ line_seen (look_line q e) }
 {
-    if c.lines <= e {
+    let d = view.drawing;
+    if d.counts.lines <= e {
         return Err(Refusal::NoSuch.at(0));
     }
-    let l = store_lines::line_in(table, e);
-    let style = c.style;
+    let l = d.table.lines[e];
+    let style = d.counts.style;
     let Style::OneBend = style else {
         return Ok(LineSeen::Straight(l));
     };
-    let to = usize::from(l.later);
-    let from = usize::from(l.earlier);
-    let at = store_settling::bend_of(x, table, to, from, l.bend);
-    Ok(LineSeen::Bent(l, at))
+    Ok(LineSeen::Bent(l, bend_of(view, l)))
 }
 
-// A line with this entry and this later point is cut and ends at p.
-fn is_cut_to(word: u16, later: u16, p: usize) -> bool
-    ensures { result ≡ cut_to (entry_of word) later p }
+// A line is cut and ends at p.
+fn is_cut_to(l: Line, p: usize) -> bool
+    ensures { result ≡ cut_to l p }
 {
-    let x = words::entry_of(word);
-    let kind = x.kind;
-    words::is_cut(kind) && (usize::from(later) == p || usize::from(x.point) == p)
+    words::is_cut(l.kind) && (usize::from(l.later) == p || usize::from(l.earlier) == p)
 }
 
 // The first cut line that ends at p.
 #[tactic(auto, unfolding(crate::specs::Cuts::cut_at))]
-fn first_cut(table: &Table, lines: usize, p: usize) -> Option<usize>
-    requires { lines ≤ 3072 }
-    ensures { FirstCut (arrays_in table.now) lines p result }
+fn first_cut(d: &Drawing, p: usize) -> Option<usize>
+    requires { d.now.counts.lines ≤ 3072 }
+    ensures { FirstCut (arrays_in d.now.table) d.now.counts.lines p result }
 {
-    for e in 0..lines {
-        if is_cut_to(table.words[e], table.later[e], p) {
+    for e in 0..d.counts.lines {
+        if is_cut_to(d.table.lines[e], p) {
             return Some(e);
         }
     }
@@ -95,12 +89,12 @@ fn first_cut(table: &Table, lines: usize, p: usize) -> Option<usize>
 }
 
 // Some cut line that ends at p, or that there is none.
-pub fn look_cut(table: &Table, c: Counts, p: usize) -> Answer<Option<usize>>
-    requires { Ready (arrays_in table.now) c }
-    ensures { (q : Plan) → Holds q (arrays_in table.now) c → LooksCut q p (told_cut result) }
+pub fn look_cut(d: &Drawing, p: usize) -> Answer<Option<usize>>
+    requires { Stored d.now }
+    ensures { (q : Plan) → Is q d.now → LooksCut q p (told_cut result) }
 {
-    if !is_point(c.k, p) {
+    if !is_point(d.counts.k, p) {
         return Err(Refusal::NoSuch.at(0));
     }
-    Ok(first_cut(table, c.lines, p))
+    Ok(first_cut(d, p))
 }

@@ -7,22 +7,24 @@ use native.Mathlib.Numerals.{add-one}
 use native.Mathlib.Omega.{arith}
 use Rattle.rules.specs.Adding.{reaches}
 use Rattle.store_links.specs.declared.Spot.{Spot}
-use Rattle.store_links.specs.Arrays.{at_point}
+use Rattle.store_links.specs.Arrays.{Arrays}
 use Rattle.store_links.specs.Placing.{entry_point, way, port_reaches, change_from, all_reach_from}
+use Rattle.store_tables.specs.declared.Point.{Point}
+use Rattle.store_tables.specs.Columns.{point_at}
 
--- the way grows by the gap of the point that was read
-pub along : (gap es : List ℕ) (j q g : ℕ) → q ≡ entry_point es (j + 1) → g ≡ at_point gap q → way gap es j + g ≡ way gap es (j + 1)
-along gap es j q g hq hg = rw (hg, hq, add-one)
+-- a turn: the point v of entry j + 1 is read from the arrays a, with its gap g and its height y, and entry j lies `far` from wl
+module _ (p : Spot) (a : Arrays) (es : List ℕ) (j far g y : ℕ) (v : Point) (hv : v ≡ point_at a (entry_point es (j + 1))) (hg : g ≡ v.gap) (hf : far ≡ way a.gap es j + p.s1) where
+  -- the way grows by the gap
+  pub along : far + g ≡ way a.gap es (j + 1) + p.s1
+  along = rw (hg, hf, hv, add-one) (omega arith)
 
--- the tests on that point are the definitions'
-module _ (p : Spot) (gap ys es : List ℕ) (j a q g y : ℕ) (hq : q ≡ entry_point es (j + 1)) (hg : g ≡ at_point gap q) (hy : y ≡ at_point ys q) (ha : a ≡ way gap es j + p.s1) where
-  pub tested : (port : ℕ) → reaches p.dx p.y p.h port (a + g) y ≡ port_reaches p gap ys es port (j + 1)
-  tested port =
-      let e : a + g ≡ way gap es (j + 1) + p.s1 = omega (arith, along gap es j q g hq hg) in
-      rw (e, hy, hq)
+  module _ (hy : y ≡ v.y) where
+    -- the tests on that point are the definitions'
+    pub tested : (port : ℕ) → reaches p.dx p.y p.h port (far + g) y ≡ port_reaches p a.gap a.ys es port (j + 1)
+    tested port = rw (along, hy, hv)
 
-  pub tested-either : (reaches p.dx p.y p.h (j + 1) (a + g) y || reaches p.dx p.y p.h (suc (j + 1)) (a + g) y) ≡ (port_reaches p gap ys es (j + 1) (j + 1) || port_reaches p gap ys es (suc (j + 1)) (j + 1))
-  tested-either = rw (tested (j + 1), tested (suc (j + 1)))
+    pub tested-either : (reaches p.dx p.y p.h (j + 1) (far + g) y || reaches p.dx p.y p.h (suc (j + 1)) (far + g) y) ≡ (port_reaches p a.gap a.ys es (j + 1) (j + 1) || port_reaches p a.gap a.ys es (suc (j + 1)) (j + 1))
+    tested-either = rw (tested (j + 1), tested (suc (j + 1)))
 
 -- what is left of each definition after the test
 module _ (p : Spot) (gap ys es : List ℕ) (n j : ℕ) (h : j < n) where

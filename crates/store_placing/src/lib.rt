@@ -5,14 +5,15 @@
 
 ghost use Rattle.std.specs.Prelude.{◌≡◌, ◌||◌, suc, ◌+◌, ◌-◌, ◌/◌, ◌<◌, ◌≤◌, length};
 ghost use Rattle.rules.specs.Adding.{reaches};
-ghost use Rattle.store_links.specs.Arrays.{at_point};
 ghost use Rattle.store_links.specs.Placing.{entry_point, way, spot_of, change_from, all_reach_from, inner_count};
 ghost use Rattle.store_links.specs.Runs.{Within};
+ghost use Rattle.store_tables.specs.Tables.{arrays_in};
 ghost use Rattle.store_placing.specs.Small.{Small};
 ghost use Rattle.store_placing.specs.Ports.{ports_for};
 
 use rules::Style;
 use store_links::Spot;
+use store_tables::Table;
 use styles::{amount, inset};
 use words::point_of;
 
@@ -24,24 +25,16 @@ fn point_at(e: &[u16], i: usize) -> usize
     point_of(e[i])
 }
 
-// What an array holds at point p.
-fn at_point(xs: &[u16], p: usize) -> usize
-    requires { (length xs.now ≡ 1024) × (0 < p) × (p ≤ 1024) }
-    ensures { (result ≡ at_point xs.now p) × (result < 65536) }
-{
-    usize::from(xs[p - 1])
-}
-
 // How far the last entry's point lies to the right of the first entry's.
-pub fn way_over(e: &[u16], gap: &[u16]) -> usize
-    requires { (length gap.now ≡ 1024) × (0 < length e.now) × (length e.now ≤ 1024) × Within 1024 e.now }
-    ensures { result ≡ way gap.now e.now (length e.now - 1) }
+pub fn way_over(e: &[u16], table: &Table) -> usize
+    requires { (0 < length e.now) × (length e.now ≤ 1024) × Within 1024 e.now }
+    ensures { result ≡ way (arrays_in table.now).gap e.now (length e.now - 1) }
 {
     let last = e.len() - 1;
     let mut far = 0;
     for i in 0..last {
-        let q = point_at(e, i + 1);
-        far += at_point(gap, q);
+        let point = table.point(point_at(e, i + 1));
+        far += usize::from(point.gap);
     }
     far
 }
@@ -101,9 +94,9 @@ fn either_reaches(p: Spot, port: usize, a: usize, y: usize) -> bool
 
 // Step 5: the index of the inner point from which ports change to i + 1, the first that port i doesn't reach.
 // It stays a labelled loop that breaks with the index: document 01 asks for that form.
-fn change_at(p: Spot, gap: &[u16], ys: &[u16], e: &[u16]) -> usize
-    requires { Small p × (length gap.now ≡ 1024) × (length ys.now ≡ 1024) × (1 < length e.now) × (length e.now ≤ 1024) × Within 1024 e.now }
-    ensures { result ≡ change_from p gap.now ys.now e.now 1 (inner_count e.now) }
+fn change_at(p: Spot, table: &Table, e: &[u16]) -> usize
+    requires { Small p × (1 < length e.now) × (length e.now ≤ 1024) × Within 1024 e.now }
+    ensures { result ≡ change_from p (arrays_in table.now).gap (arrays_in table.now).ys e.now 1 (inner_count e.now) }
 {
     let last = e.len() - 1;
     let mut a = p.s1;
@@ -113,9 +106,9 @@ fn change_at(p: Spot, gap: &[u16], ys: &[u16], e: &[u16]) -> usize
         if last <= i {
             break 'scan last;
         }
-        let q = point_at(e, i);
-        a += at_point(gap, q);
-        let y = at_point(ys, q);
+        let point = table.point(point_at(e, i));
+        a += usize::from(point.gap);
+        let y = usize::from(point.y);
         if !port_reaches(p, i, a, y) {
             break 'scan i;
         }
@@ -125,16 +118,16 @@ fn change_at(p: Spot, gap: &[u16], ys: &[u16], e: &[u16]) -> usize
 }
 
 // 25 is false: every inner point i reaches port i or port i + 1.
-fn all_reach(p: Spot, gap: &[u16], ys: &[u16], e: &[u16]) -> bool
-    requires { Small p × (length gap.now ≡ 1024) × (length ys.now ≡ 1024) × (1 < length e.now) × (length e.now ≤ 1024) × Within 1024 e.now }
-    ensures { result ≡ all_reach_from p gap.now ys.now e.now 1 (inner_count e.now) }
+fn all_reach(p: Spot, table: &Table, e: &[u16]) -> bool
+    requires { Small p × (1 < length e.now) × (length e.now ≤ 1024) × Within 1024 e.now }
+    ensures { result ≡ all_reach_from p (arrays_in table.now).gap (arrays_in table.now).ys e.now 1 (inner_count e.now) }
 {
     let inner = e.len() - 2;
     let mut a = p.s1;
     for i in 0..inner {
-        let q = point_at(e, i + 1);
-        a += at_point(gap, q);
-        let y = at_point(ys, q);
+        let point = table.point(point_at(e, i + 1));
+        a += usize::from(point.gap);
+        let y = usize::from(point.y);
         if !either_reaches(p, i + 1, a, y) {
             return false;
         }
@@ -144,16 +137,16 @@ fn all_reach(p: Spot, gap: &[u16], ys: &[u16], e: &[u16]) -> bool
 
 // Step 5: which middle ports the inner points take: port i + 1 from this index on, and port i before it; or none, which is 25.
 // Where port i reaches every one, 25 isn't looked for.
-pub fn ports_of(p: Spot, gap: &[u16], ys: &[u16], e: &[u16]) -> Option<usize>
-    requires { Small p × (length gap.now ≡ 1024) × (length ys.now ≡ 1024) × (1 < length e.now) × (length e.now ≤ 1024) × Within 1024 e.now }
-    ensures { result ≡ ports_for (change_from p gap.now ys.now e.now 1 (inner_count e.now)) (all_reach_from p gap.now ys.now e.now 1 (inner_count e.now)) }
+pub fn ports_of(p: Spot, table: &Table, e: &[u16]) -> Option<usize>
+    requires { Small p × (1 < length e.now) × (length e.now ≤ 1024) × Within 1024 e.now }
+    ensures { result ≡ ports_for (change_from p (arrays_in table.now).gap (arrays_in table.now).ys e.now 1 (inner_count e.now)) (all_reach_from p (arrays_in table.now).gap (arrays_in table.now).ys e.now 1 (inner_count e.now)) }
 {
     let last = e.len() - 1;
-    let from = change_at(p, gap, ys, e);
+    let from = change_at(p, table, e);
     if from == last {
         return Some(from);
     }
-    if !all_reach(p, gap, ys, e) {
+    if !all_reach(p, table, e) {
         return None;
     }
     Some(from)

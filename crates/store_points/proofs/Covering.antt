@@ -1,16 +1,16 @@
 -- One turn of covering, on lists.
 use Prim.Native.Nat.{ℕ, zero, suc, pred, ◌+◌, ◌-◌, ◌<◌, ◌≤◌}
-use mathlib.Core.Path.{◌≡◌, refl, ◌∙◌, ap}
+use mathlib.Core.Path.{◌≡◌, refl, ◌∙◌}
 use mathlib.Core.List.{List}
 use native.Mathlib.Nat.{le_refl, add-zero, add-suc}
-use native.Mathlib.Numerals.{add-one, sub-one}
+use native.Mathlib.Numerals.{add-one}
 use native.Mathlib.Omega.{arith}
-use lib.ListN.{length, get_or, set}
+use lib.ListN.{length}
 use lib.Seq.{get_or-set_other}
 use Rattle.store_links.specs.declared.Spot.{Spot}
 use Rattle.store_links.specs.Arrays.{Arrays, at_point, gap_offset}
 use Rattle.store_links.specs.Placing.{entry_point, way, inner_count}
-use Rattle.store_links.specs.Storing.{covered_gaps, covered_owners}
+use Rattle.store_links.specs.Storing.{put_at, covered_gaps, covered_owners}
 use Rattle.store_points.specs.Storable.{Coverable}
 use Rattle.store_points.specs.Stages.{covered}
 
@@ -33,44 +33,25 @@ way_most gap es i j h =
     let e : i + (j - i) ≡ j = omega arith in
     rw e at (way_more gap es i (j - i))
 
--- the entries 1 to i are covered, `far` is the way to the last of them, and q is the point of entry i + 1, which is covered next
-pub record Turn (gap₀ es : List ℕ) (p : Spot) (i far : ℕ) (gap : List ℕ) (q : ℕ) : Type 0 where
-  pub call : Coverable es gap₀ p
+-- the entries 1 to i of a call are covered in the arrays b, `far` is the way to the last of them, and r is the gap of the point q of entry i + 1, which is covered next
+pub record Turn (a : Arrays) (es : List ℕ) (p : Spot) (v i far : ℕ) (b : Arrays) (q r : ℕ) : Type 0 where
+  pub call : Coverable es a.gap p
   pub inner : i < inner_count es
-  pub passed : far ≡ way gap₀ es i
-  pub gaps : gap ≡ covered_gaps gap₀ es p i
+  pub passed : far ≡ way a.gap es i
+  pub arrays : b ≡ covered a es p v i
   pub point : q ≡ entry_point es (i + 1)
+  pub read : r ≡ at_point b.gap q
 
-module _ {gap₀ es : List ℕ} {p : Spot} {i far : ℕ} {gap : List ℕ} {q : ℕ} (t : Turn gap₀ es p i far gap q) where
-  entry : i + 1 < length es
-  entry = omega (arith, t.inner)
-
-  pub turn_low : 0 < q
-  turn_low = omega (arith, t.point, t.call.within.low (i + 1) entry)
-
-  pub turn-index : q - 1 < 1024
-  turn-index = omega (arith, turn_low, t.point, t.call.within.high (i + 1) entry)
-
-  pub turn-way : far + get_or gap (q - 1) 0 ≡ way gap₀ es (i + 1)
+module _ {a : Arrays} {es : List ℕ} {p : Spot} {v i far : ℕ} {b : Arrays} {q r : ℕ} (t : Turn a es p v i far b q r) where
+  pub turn-way : far + r ≡ way a.gap es (i + 1)
   turn-way =
-      let s : at_point (covered_gaps gap₀ es p i) (entry_point es (i + 1)) ≡ at_point gap₀ (entry_point es (i + 1)) = still gap₀ es p i (i + 1) t.call (omega arith) entry in
-      rw (t.passed, t.gaps, t.point, sub-one, s, add-one)
+      let s : at_point (covered_gaps a.gap es p i) (entry_point es (i + 1)) ≡ at_point a.gap (entry_point es (i + 1)) = still a.gap es p i (i + 1) t.call (omega arith) (omega (arith, t.inner)) in
+      rw (t.passed, t.read, t.arrays, t.point, s, add-one)
 
-  pub turn_near : way gap₀ es (i + 1) + p.s1 < gap_offset
-  turn_near = omega (arith, way_most gap₀ es (i + 1) (inner_count es) (omega (arith, t.inner)), t.call.near)
+  pub turn_near : far + r + p.s1 < gap_offset
+  turn_near = omega (arith, turn-way, way_most a.gap es (i + 1) (inner_count es) (omega (arith, t.inner)), t.call.near)
 
-  pub turn_gap : {x : ℕ} → x ≡ way gap₀ es (i + 1) + p.s1 + gap_offset - p.dx → set gap (q - 1) x ≡ covered_gaps gap₀ es p (i + 1)
-  unfolding covered_gaps
-  turn_gap e = rw (e, t.gaps, t.point, sub-one, add-one)
-
--- the same of the owners
-pub owner_more : (owner₀ owner es : List ℕ) (v i q : ℕ) → owner ≡ covered_owners owner₀ es v i → q ≡ entry_point es (i + 1) → set owner (q - 1) v ≡ covered_owners owner₀ es v (i + 1)
-unfolding covered_owners
-owner_more owner₀ owner es v i q ho hq = rw (ho, hq, sub-one, add-one)
-
--- and of all the arrays
-pub cover_more : (a : Arrays) {es : List ℕ} {p : Spot} {i far q x : ℕ} {b : Arrays} (v : ℕ) → Turn a.gap es p i far b.gap q → b ≡ covered a es p v i → x ≡ way a.gap es (i + 1) + p.s1 + gap_offset - p.dx →
-    ◌≡◌ {A = Arrays} (record b { gap = set b.gap (q - 1) x; owner = set b.owner (q - 1) v }) (covered a es p v (i + 1))
-cover_more a {es} {p} {i} {far} {q} {x} {b} v t k e =
-    let o = owner_more a.owner b.owner es v i q (ap (λ (r : Arrays). r.owner) k) t.point in
-    λ j. record (k j) { gap = turn_gap t e j; owner = o j }
+  -- with it one entry more is covered
+  pub cover_more : record b { gap = put_at b.gap q (far + r + p.s1 + gap_offset - p.dx); owner = put_at b.owner q v } ≡ covered a es p v (i + 1)
+  unfolding covered_gaps covered_owners
+  cover_more = rw (turn-way, t.arrays, t.point, add-one)

@@ -5,6 +5,5 @@ pub mod Few
 pub mod Settling
 pub mod Bends
 pub mod Bending
-pub mod Indexes
 pub mod Lines
 pub mod One

@@ -1,8 +1,6 @@
 -- Arrays and numbers store one drawing at most: what they store says which it is.
 use Rattle.std.specs.Prelude.{ℕ, zero, suc, pred, ◌<◌, ◌≡◌, refl, List, length, take}
 use Rattle.std.proofs.Common.{sym, ap, ◌∙◌, arith, ext_get_or}
-use Rattle.rules.specs.declared.Kind.TheVariants.{Guide}
-use Rattle.rules.specs.declared.Bend.TheVariants.{NoBend}
 use Rattle.rules.specs.Points.{Drawing, w, m}
 use Rattle.promise.specs.Sound.{Sound}
 use Rattle.promise.specs.Standing.{Standing}
@@ -11,7 +9,6 @@ use Rattle.store_links.specs.Arrays.{Arrays, Stores, at_point}
 use Rattle.store_links.specs.Opening.{no_points}
 use Rattle.store_settling.specs.Placed.{Settleable, settleable_of, placed_at}
 use Rattle.store_settling.specs.Settling.{both_settle}
-use Rattle.store_settling.specs.Lines.{line_is}
 
 -- the boundary begins with point 1
 first_is : {d : Drawing} → Sound d → w d 0 ≡ 1
@@ -56,9 +53,7 @@ module _ {p q : Drawing} {a : Arrays} {c : Counts} (sp : Standing p) (sq : Stand
 
   -- the same lines
   same_all : p.lines ≡ q.lines
-  same_all =
-      ext_get_or (record { later = 0; earlier = 0; bend = NoBend; kind = Guide }) p.lines q.lines same_lines
-      (λ e el. sym (line_is sp e el hp) ∙ line_is sq e (omega (arith, same_lines)) hq)
+  same_all = sym hp.drawn ∙ ap (λ (i : ℕ). take i a.lines) same_lines ∙ hq.drawn
 
   -- THEY ARE ONE.
   pub stored_one : p ≡ q

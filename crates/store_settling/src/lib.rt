@@ -1,5 +1,5 @@
 // The x of every placed point, from links and gaps; and the place where a line bends.
-// For the crates above: it asks for the table of a drawing, which they have.
+// For the crates above: it asks for a stored drawing, which they have.
 #![tactic(auto)]
 
 ghost use Rattle.std.specs.Prelude.{◌≡◌, ◌<◌, ◌≤◌, length, get_or};
@@ -9,76 +9,87 @@ ghost use Rattle.store_settling.specs.Hang.{hang_by, HangsBy, hung, Hangs};
 ghost use Rattle.store_settling.specs.Placed.{Settleable, Settled};
 ghost use Rattle.store_settling.specs.Bends.{Bendable, bend_in};
 
-use rules::{Bend, Place};
+use rules::{Bend, Line, Place};
+use store_lines::{left_port, middle_port, right_port};
 use store_links::GAP_OFFSET;
-use store_tables::{POINTS, Table};
+use store_tables::{Drawing, POINTS, Table};
 
 // The first pass: boundary points along the links from point 1, which lies at 0.
-fn walk(x: &mut [u16; POINTS], next: &[u16], gap: &[u16], k: usize)
-    requires { (length x.old ≡ 1024) × (length next.now ≡ 1024) × (length gap.now ≡ 1024) × Walks next.now gap.now k (get_or next.now 0 0) 0 }
-    ensures { x.new ≡ first_pass next.now gap.now k x.old }
+fn walk(x: &mut [u16; POINTS], table: &Table, k: usize)
+    requires { (length x.old ≡ 1024) × Walks (arrays_in table.now).next (arrays_in table.now).gap k (get_or (arrays_in table.now).next 0 0) 0 }
+    ensures { x.new ≡ first_pass (arrays_in table.now).next (arrays_in table.now).gap k x.old }
 {
     x[0] = 0;
-    let mut from = 0;
     let mut at = 0;
+    let mut p = usize::from(table.point(1).next);
     for _step in 0..k {
-        let p = usize::from(next[from]);
         if p == 0 {
             return;
         }
-        let q = p - 1;
-        at += usize::from(gap[q]);
-        x[q] = at as u16;
-        from = q;
+        let point = table.point(p);
+        at += usize::from(point.gap);
+        x[p - 1] = at as u16;
+        p = usize::from(point.next);
     }
 }
 
 // One covered point, at index p: its x from its owner's. Of a boundary point nothing changes.
-fn hang_one(x: &mut [u16; POINTS], gap: &[u16], owner: &[u16], p: usize)
-    requires { (length x.old ≡ 1024) × (length gap.now ≡ 1024) × (length owner.now ≡ 1024) × (p < 1024) × HangsBy (get_or owner.now p 0) gap.now p x.old }
-    ensures { x.new ≡ hang_by (get_or owner.now p 0) gap.now p x.old }
+fn hang_one(x: &mut [u16; POINTS], table: &Table, p: usize)
+    requires { (length x.old ≡ 1024) × (p < 1024) × HangsBy (get_or (arrays_in table.now).owner p 0) (arrays_in table.now).gap p x.old }
+    ensures { x.new ≡ hang_by (get_or (arrays_in table.now).owner p 0) (arrays_in table.now).gap p x.old }
 {
-    let o = usize::from(owner[p]);
+    let point = table.point(p + 1);
+    let o = usize::from(point.owner);
     if o == 0 {
         return;
     }
-    let sum = usize::from(x[o - 1]) + usize::from(gap[p]);
+    let sum = usize::from(x[o - 1]) + usize::from(point.gap);
     x[p] = (sum - GAP_OFFSET) as u16;
 }
 
 // The second pass: covered points from point k down to point 1, each after its owner.
-fn hang(x: &mut [u16; POINTS], gap: &[u16], owner: &[u16], k: usize)
-    requires { (length x.old ≡ 1024) × (length gap.now ≡ 1024) × (length owner.now ≡ 1024) × (k ≤ 1024) × Hangs gap.now owner.now k x.old }
-    ensures { x.new ≡ hung gap.now owner.now k x.old }
+fn hang(x: &mut [u16; POINTS], table: &Table, k: usize)
+    requires { (length x.old ≡ 1024) × (k ≤ 1024) × Hangs (arrays_in table.now).gap (arrays_in table.now).owner k x.old }
+    ensures { x.new ≡ hung (arrays_in table.now).gap (arrays_in table.now).owner k x.old }
 {
     for p in (0..k).rev() {
-        hang_one(x, gap, owner, p);
+        hang_one(x, table, p);
     }
 }
 
 // The x of every placed point.
-pub fn settle(x: &mut [u16; POINTS], table: &Table, k: usize)
-    requires { Settleable x.old (arrays_in table.now) k }
-    ensures { Settled x.new (arrays_in table.now) k }
+pub fn settle(x: &mut [u16; POINTS], d: &Drawing)
+    requires { Settleable x.old (arrays_in d.now.table) d.now.counts.k }
+    ensures { Settled x.new (arrays_in d.now.table) d.now.counts.k }
 {
-    walk(x, &table.next, &table.gap, k);
-    hang(x, &table.gap, &table.owner, k);
+    let k = d.counts.k;
+    walk(x, &d.table, k);
+    hang(x, &d.table, k);
+}
+
+// A drawing with the x of every placed point: what look-ups, moves and writers read.
+#[derive(Clone, Copy)]
+pub struct View<'a> {
+    pub drawing: &'a Drawing,
+    pub x: &'a [u16; POINTS],
 }
 
 // Where a line bends, from the places of now.
-pub fn bend_of(x: &[u16; POINTS], table: &Table, later: usize, earlier: usize, b: Bend) -> Place
-    requires { Bendable x.now (arrays_in table.now) later earlier b }
-    ensures { result ≡ bend_in x.now (arrays_in table.now) later earlier b }
+pub fn bend_of(view: &View, l: Line) -> Place
+    requires { Bendable view.now.x.now (arrays_in view.now.drawing.now.table) l.later l.earlier l.bend }
+    ensures { result ≡ bend_in view.now.x.now (arrays_in view.now.drawing.now.table) l.later l.earlier l.bend }
 {
-    let p = later - 1;
-    let q = earlier - 1;
-    match b {
-        Bend::Left(j) => store_lines::left_port(x[q], table.ys[q], table.dls[q], j),
-        Bend::Right(j) => store_lines::right_port(x[q], table.ys[q], table.drs[q], j),
-        Bend::Middle(i) => store_lines::middle_port(x[p], table.ys[p], table.hs[p], i),
-        Bend::NoBend => Place {
-            x: x[q],
-            y: table.ys[q],
-        },
+    let later = usize::from(l.later);
+    let earlier = usize::from(l.earlier);
+    let from = view.drawing.table.point(earlier);
+    let x = view.x[earlier - 1];
+    match l.bend {
+        Bend::NoBend => Place { x, y: from.y },
+        Bend::Left(j) => left_port(x, from.y, from.dl, j),
+        Bend::Right(j) => right_port(x, from.y, from.dr, j),
+        Bend::Middle(i) => {
+            let to = view.drawing.table.point(later);
+            middle_port(view.x[later - 1], to.y, to.h, i)
+        }
     }
 }

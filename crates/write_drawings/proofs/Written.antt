@@ -13,7 +13,7 @@ use Rattle.rules.specs.DrawingFile.{highest, last_field}
 use Rattle.rules.specs.Styles.{drawing_mark}
 use Rattle.store_links.specs.declared.Counts.{Counts}
 use Rattle.store_links.specs.Arrays.{Arrays}
-use Rattle.store_lines.specs.Lines.{line_in}
+use Rattle.store_links.specs.Opening.{no_line}
 use Rattle.write_drawings.specs.Lists.{several, point_bytes, bend_at, line_bytes, file_bytes}
 use Rattle.pages.specs.declared.Page.{Page}
 use Rattle.pages.specs.Pages.{Grown, grown_both}
@@ -21,14 +21,14 @@ use Rattle.write_drawings.specs.Stores.{length-several}
 use Rattle.write_drawings.specs.Files.{length-line}
 
 -- The numbers that are written are the line's record, with its bend
-pub line-put : (xs : List ℕ) (a : Arrays) (s e : ℕ) {τ : Style} {l : Line} {place : Place} {x y field : ℕ} {page after : Page} → τ ≡ OneBend → l ≡ line_in a e →
+pub line-put : (xs : List ℕ) (a : Arrays) (s e : ℕ) {τ : Style} {l : Line} {place : Place} {x y field : ℕ} {page after : Page} → τ ≡ OneBend → l ≡ get_or a.lines e no_line →
     place ≡ bend_at xs a l → x ≡ s * place.x → y ≡ s * place.y → field ≡ last_field l.kind →
     Grown page (written (line_shape OneBend) (l.later ∷ l.earlier ∷ x ∷ y ∷ field ∷ [])) after → Grown page (line_bytes τ s xs a e) after
 unfolding line_bytes
 line-put xs a s e t is p x y m h = rw t (rw (x, y, m, p, is) at h)
 
 -- or without one.
-pub straight-put : (xs : List ℕ) (a : Arrays) (s e : ℕ) {τ : Style} {l : Line} {field : ℕ} {page after : Page} → τ ≡ Straight → l ≡ line_in a e → field ≡ last_field l.kind →
+pub straight-put : (xs : List ℕ) (a : Arrays) (s e : ℕ) {τ : Style} {l : Line} {field : ℕ} {page after : Page} → τ ≡ Straight → l ≡ get_or a.lines e no_line → field ≡ last_field l.kind →
     Grown page (written (line_shape Straight) (l.later ∷ l.earlier ∷ field ∷ [])) after → Grown page (line_bytes τ s xs a e) after
 unfolding line_bytes
 straight-put xs a s e t is m h = rw t (rw (m, is) at h)
@@ -36,7 +36,7 @@ straight-put xs a s e t is m h = rw t (rw (m, is) at h)
 -- It has its size.
 pub length-bytes : (τ : Style) (s : ℕ) (xs : List ℕ) (a : Arrays) (e : ℕ) → length (line_bytes τ s xs a e) ≡ line_size τ
 unfolding line_bytes
-length-bytes τ s xs a e = length-line τ s (line_in a e) (bend_at xs a (line_in a e))
+length-bytes τ s xs a e = length-line τ s (get_or a.lines e no_line) (bend_at xs a (get_or a.lines e no_line))
 
 -- The numbers that are written are the point's record.
 pub point-put : (s : ℕ) (xs ys : List ℕ) (i : ℕ) {x y : ℕ} {page after : Page} → x ≡ s * get_or xs i 0 → y ≡ s * get_or ys i 0 →

@@ -15,7 +15,7 @@ use Rattle.store_links.specs.declared.Counts.{Counts}
 use Rattle.store_links.specs.Arrays.{Arrays}
 use Rattle.promise.specs.Standing.{Standing}
 use Rattle.store_settling.specs.Bending.{Shows, shows_of, bend_right}
-use Rattle.store_lines.specs.Lines.{line_in}
+use Rattle.store_links.specs.Opening.{no_line}
 use Rattle.store_settling.specs.Lines as Lines
 use Rattle.write_drawings.specs.Lists.{several, point_bytes, bend_at, line_bytes, file_bytes}
 use Rattle.write_drawings.specs.Stores.{length-several}
@@ -88,8 +88,8 @@ module _ {d : Drawing} {x : List ℕ} {a : Arrays} {c : Counts} (h : Finished d 
 
   module _ (e : ℕ) (el : e < length d.lines) where
     -- The line that the arrays have is the drawing's.
-    pub line_is : line_in a e ≡ line_at d e
-    line_is = Lines.line_is h.holds.standing e el h.holds.stores
+    pub line_is : get_or a.lines e no_line ≡ line_at d e
+    line_is = Lines.line_is h.holds.stores e el
 
     -- So is its bend.
     pub bend_is : bend_at x a (line_at d e) ≡ bend_place d (line_at d e)

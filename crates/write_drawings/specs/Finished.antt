@@ -8,7 +8,7 @@ use Rattle.store_links.specs.declared.Counts.{Counts}
 use Rattle.store_links.specs.Arrays.{Arrays}
 use Rattle.store_laws.specs.Adding.{Holds}
 use Rattle.store_settling.specs.Bends.{Bendable}
-use Rattle.store_lines.specs.Lines.{line_in}
+use Rattle.store_links.specs.Opening.{no_line}
 use Rattle.rules.specs.Records.{place_size, line_size}
 use Rattle.write_drawings.specs.Lists.{bend_at}
 
@@ -45,11 +45,11 @@ pub record LineFits (x : List ℕ) (a : Arrays) (s : ℕ) (l : Line) : Type 0 wh
 -- line e is such a line, and its record has room at the place `at`
 pub record LineReady (τ : Style) (x : List ℕ) (a : Arrays) (s e at : ℕ) (buffer : List ℕ) : Type 0 where
   pub line : e < 3072
-  pub fits : LineFits x a s (line_in a e)
+  pub fits : LineFits x a s (get_or a.lines e no_line)
   pub room : at + line_size τ ≤ length buffer
 
 -- so are the first `count` lines
 pub record LinesReady (τ : Style) (x : List ℕ) (a : Arrays) (s count at : ℕ) (buffer : List ℕ) : Type 0 where
   pub few : count ≤ 3072
-  pub fits : (e : ℕ) → e < count → LineFits x a s (line_in a e)
+  pub fits : (e : ℕ) → e < count → LineFits x a s (get_or a.lines e no_line)
   pub room : at + line_size τ * count ≤ length buffer

@@ -8,7 +8,7 @@ use Rattle.rules.specs.DrawingFile.{highest, line_words}
 use Rattle.store_links.specs.declared.Counts.{Counts}
 use Rattle.store_links.specs.Arrays.{Arrays}
 use Rattle.store_settling.specs.Bends.{bend_in}
-use Rattle.store_lines.specs.Lines.{line_in}
+use Rattle.store_links.specs.Opening.{no_line}
 
 -- the bytes f 0, .., f (i - 1), one behind the other
 unfoldable pub several : (ℕ → List ℕ) → ℕ → List ℕ
@@ -25,7 +25,7 @@ bend_at x a l = bend_in x a l.later l.earlier l.bend
 
 -- the record of line e
 unfoldable pub line_bytes : Style → ℕ → List ℕ → Arrays → ℕ → List ℕ
-line_bytes τ s x a e = written (line_shape τ) (line_words τ s (line_in a e) (bend_at x a (line_in a e)))
+line_bytes τ s x a e = written (line_shape τ) (line_words τ s (get_or a.lines e no_line) (bend_at x a (get_or a.lines e no_line)))
 
 -- the whole file
 unfoldable pub file_bytes : List ℕ → Arrays → Counts → List ℕ

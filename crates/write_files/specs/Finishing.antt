@@ -5,9 +5,8 @@ use Rattle.rules.specs.declared.Refusal.TheVariants.{Unfinished}
 use Rattle.rules.specs.Refusals.{Result, good, refuse_if, ◌>>◌}
 use Rattle.rules.specs.Points.{Drawing as Plan}
 use Rattle.rules.specs.OrderFile.{write_order}
-use Rattle.store_links.specs.declared.Counts.{Counts}
-use Rattle.store_links.specs.Arrays.{Arrays}
-use Rattle.store_laws.specs.Adding.{Holds}
+use Rattle.store_tables.specs.declared.Drawing.{Drawing}
+use Rattle.store_laws.specs.Stored.{Is}
 use Rattle.exchange.specs.Built.{Reached, Whole}
 use Rattle.write_files.specs.Outputs.{Ended}
 
@@ -17,21 +16,21 @@ whole_order d = do
   refuse_if (ltb d.k d.n) Unfinished 0
   good (write_order d)
 
-module _ {q : Plan} {a : Arrays} {c : Counts} (t : Holds q a c) where
+module _ {q : Plan} {d : Drawing} (t : Is q d) where
   -- the file
-  pub late : {A : Type 0} (wanted : Result A) → c.n ≤ c.k → (refuse_if (ltb q.k q.n) Unfinished 0 >> wanted) ≡ wanted
+  pub late : {A : Type 0} (wanted : Result A) → d.counts.n ≤ d.counts.k → (refuse_if (ltb q.k q.n) Unfinished 0 >> wanted) ≡ wanted
   late wanted h = rw (le-ltb q.k q.n (omega (arith, t.stores.k, t.stores.n)))
 
   -- with all its points it is whole
-  pub whole_late : Reached q → c.n ≤ c.k → Whole q
+  pub whole_late : Reached q → d.counts.n ≤ d.counts.k → Whole q
   whole_late r h = record { reached = r; full = omega (arith, t.stores.k, t.stores.n, t.standing.ranged.room) }
 
--- the arrays hold a drawing that calls or a file reached
-pub record ReachedIn (a : Arrays) (c : Counts) : Type 0 where
-  pub d : Plan
-  pub reached : Reached d
-  pub holds : Holds d a c
+-- d is a drawing that calls or a file reached, stored
+pub record IsReached (d : Drawing) : Type 0 where
+  pub plan : Plan
+  pub reached : Reached plan
+  pub is : Is plan d
 
 -- a finished one is whole
-pub ended-late : {a : Arrays} {c : Counts} → ReachedIn a c → c.n ≤ c.k → Ended a c
-ended-late g h = record { d = g.d; whole = whole_late g.holds g.reached h; holds = g.holds }
+pub ended-late : {d : Drawing} → IsReached d → d.counts.n ≤ d.counts.k → Ended d
+ended-late g h = record { plan = g.plan; whole = whole_late g.is g.reached h; is = g.is }

@@ -8,9 +8,8 @@ use Rattle.rules.specs.Refusals.{Result, Answer, good, refused, refusal_at, refu
 use Rattle.rules.specs.Results.{refusing, all_passed, test_false}
 use Rattle.rules.specs.Output.{fitted, counted, filled}
 use Rattle.rules.specs.Points.{Drawing as Plan}
-use Rattle.store_links.specs.declared.Counts.{Counts}
-use Rattle.store_links.specs.Arrays.{Arrays}
-use Rattle.store_laws.specs.Adding.{Holds}
+use Rattle.store_tables.specs.declared.Drawing.{Drawing}
+use Rattle.store_laws.specs.Stored.{Is}
 use Rattle.exchange.specs.Built.{Whole}
 use Rattle.answers.specs.Told.{told_written}
 
@@ -19,11 +18,11 @@ pub record Wrote (before : List ℕ) (wanted : Result (List ℕ)) (after : List 
   pub answer : told_written r ≡ told (counted (fitted before wanted))
   pub bytes : after ≡ filled before (fitted before wanted)
 
--- the arrays hold a whole drawing
-pub record Ended (a : Arrays) (c : Counts) : Type 0 where
-  pub d : Plan
-  pub whole : Whole d
-  pub holds : Holds d a c
+-- d is a whole drawing, stored
+pub record Ended (d : Drawing) : Type 0 where
+  pub plan : Plan
+  pub whole : Whole plan
+  pub is : Is plan d
 
 -- nothing was to be written
 pub turned : (before : List ℕ) (r : Refusal) (p : ℕ) → Wrote before (refused r p) before (Err (refusal_at r p))

@@ -1,5 +1,5 @@
-// Both files of the drawing in a lent table, written into a buffer that the caller lends: 24 where it is short.
-// For `panel` and `panel_asked`: it asks for the table of a drawing, a finished one where it does not test that.
+// Both files of a drawing, written into a buffer that the caller lends: 24 where it is short.
+// For `panel` and `panel_asked`: it asks for a stored drawing, a finished one where it does not test that.
 #![tactic(auto)]
 
 ghost use Rattle.std.specs.Prelude.{◌≡◌, ◌≤◌, length, ltb};
@@ -9,15 +9,15 @@ ghost use Rattle.rules.specs.Styles.{drawing_length};
 ghost use Rattle.rules.specs.Points.{Drawing as Plan, fewest_points, most_points};
 ghost use Rattle.rules.specs.OrderFile.{write_order};
 ghost use Rattle.rules.specs.DrawingFile.{drawing_bytes, write_drawing};
-ghost use Rattle.store_tables.specs.Tables.{arrays_in};
-ghost use Rattle.store_laws.specs.Adding.{Holds};
+ghost use Rattle.store_laws.specs.Stored.{Is};
 ghost use Rattle.exchange.specs.Built.{Reached, Whole};
 ghost use Rattle.write_files.specs.Outputs.{Wrote, Ended};
-ghost use Rattle.write_files.specs.Finishing.{whole_order, ReachedIn};
+ghost use Rattle.write_files.specs.Finishing.{whole_order, IsReached};
 
 use rules::{Answer, Refusal, Style};
 use store_links::Counts;
-use store_tables::{POINTS, Table};
+use store_settling::View;
+use store_tables::{Drawing, POINTS};
 
 // How many bytes the drawing file of n points has: "42n - 60", or 4 less for each line.
 pub fn drawing_length(style: Style, n: usize) -> usize
@@ -51,41 +51,42 @@ fn room(out: &[u8], need: usize) -> Answer<()>
 }
 
 // The drawing file of a finished drawing; its length.
-pub fn put_drawing(out: &mut [u8], table: &Table, c: Counts) -> Answer<usize>
-    requires { Ended (arrays_in table.now) c }
-    ensures { (d : Plan) → Whole d → Holds d (arrays_in table.now) c → Wrote out.old (good (drawing_bytes d)) out.new result }
+pub fn put_drawing(out: &mut [u8], d: &Drawing) -> Answer<usize>
+    requires { Ended d.now }
+    ensures { (q : Plan) → Whole q → Is q d.now → Wrote out.old (good (drawing_bytes q)) out.new result }
 {
-    let need = drawing_length(c.style, c.n);
+    let need = drawing_length(d.counts.style, d.counts.n);
     room(out, need)?;
     let mut x = [0u16; POINTS];
-    store_settling::settle(&mut x, table, c.k);
-    write_drawings::write_drawing(out, &x, table, c);
+    store_settling::settle(&mut x, d);
+    write_drawings::write_drawing(out, &View { drawing: d, x: &x });
     Ok(need)
 }
 
 // Its order file; the length of that.
-pub fn put_order(out: &mut [u8], table: &Table, c: Counts) -> Answer<usize>
-    requires { Ended (arrays_in table.now) c }
-    ensures { (d : Plan) → Whole d → Holds d (arrays_in table.now) c → Wrote out.old (good (write_order d)) out.new result }
+pub fn put_order(out: &mut [u8], d: &Drawing) -> Answer<usize>
+    requires { Ended d.now }
+    ensures { (q : Plan) → Whole q → Is q d.now → Wrote out.old (good (write_order q)) out.new result }
 {
-    room(out, write_orders::order_length(c))?;
-    Ok(write_orders::write_order(out, table, c))
+    room(out, write_orders::order_length(d.counts))?;
+    Ok(write_orders::write_order(out, d))
 }
 
 // The drawing file of a drawing, finished or not: 22 while it is unfinished.
-pub fn drawing_file(out: &mut [u8], table: &Table, c: Counts) -> Answer<usize>
-    requires { ReachedIn (arrays_in table.now) c }
-    ensures { (q : Plan) → Reached q → Holds q (arrays_in table.now) c → Wrote out.old (write_drawing q) out.new result }
+pub fn drawing_file(out: &mut [u8], d: &Drawing) -> Answer<usize>
+    requires { IsReached d.now }
+    ensures { (q : Plan) → Reached q → Is q d.now → Wrote out.old (write_drawing q) out.new result }
 {
-    finished(c)?;
-    put_drawing(out, table, c)
+    finished(d.counts)?;
+    put_drawing(out, d)
 }
 
 // Its order file, in the same manner.
-pub fn order_file(out: &mut [u8], table: &Table, counts: Counts) -> Answer<usize>
-    requires { ReachedIn (arrays_in table.now) counts }
-    ensures { (q : Plan) → Reached q → Holds q (arrays_in table.now) counts → Wrote out.old (whole_order q) out.new result }
+pub fn order_file(out: &mut [u8], d: &Drawing) -> Answer<usize>
+    requires { IsReached d.now }
+    ensures { (q : Plan) → Reached q → Is q d.now → Wrote out.old (whole_order q) out.new result }
 {
+    let counts = d.counts;
     finished(counts)?;
-    put_order(out, table, counts)
+    put_order(out, d)
 }

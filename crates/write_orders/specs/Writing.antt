@@ -1,50 +1,56 @@
 -- What the order writer writes, from the stored lines: numbers of 16 bits, in order.
-use Rattle.std.specs.Prelude.{ℕ, zero, suc, ◌+◌, ◌-◌, ◌≤◌, ◌≡◌, List, [], ◌∷◌, ◌++◌, length, get_or, eqb, if◌then◌else◌}
+use Rattle.std.specs.Prelude.{ℕ, zero, suc, ◌+◌, ◌-◌, ◌<◌, ◌≤◌, ◌≡◌, List, [], ◌∷◌, ◌++◌, length, get_or, eqb, if◌then◌else◌}
 use Rattle.rules.specs.Refusals.{good}
-use Rattle.rules.specs.Entries.{word_of}
-use Rattle.rules.specs.Readings.{entry_of}
+use Rattle.rules.specs.declared.Line.{Line}
+use Rattle.rules.specs.Entries.{word_of, point_limit}
 use Rattle.rules.specs.Points.{Drawing}
 use Rattle.rules.specs.OrderFile.{write_order}
 use Rattle.rules.specs.Output.{filled}
 use Rattle.store_links.specs.declared.Counts.{Counts}
 use Rattle.store_links.specs.Arrays.{Arrays, Stores}
+use Rattle.store_links.specs.Opening.{no_line}
 use Rattle.exchange.specs.Built.{Whole}
+use Rattle.exchange.specs.Entries.{entry_for}
 use Rattle.rules.specs.Records.{order_mark, scale_mark, entries_mark, end_mark}
 
 -- ---- the numbers
 
 -- how many of the `left` lines from `from` on have p as their later point, in succession
-unfoldable pub count_of : List ℕ → ℕ → ℕ → ℕ → ℕ
-count_of later p from zero = 0
-count_of later p from (suc left) = if eqb (get_or later from 0) p then suc (count_of later p (suc from) left) else 0
+unfoldable pub count_of : List Line → ℕ → ℕ → ℕ → ℕ
+count_of stored p from zero = 0
+count_of stored p from (suc left) = if eqb (get_or stored from no_line).later p then suc (count_of stored p (suc from) left) else 0
 
--- an entry's number, split and joined
-abbrev pub again : ℕ → ℕ
-again w = word_of (entry_of w)
+-- the number of a line's entry
+abbrev pub word_for : Line → ℕ
+word_for l = word_of (entry_for l)
+
+-- the first `lines` lines have entries with such a number
+abbrev pub Joinable : List Line → ℕ → Type 0
+Joinable stored lines = (e : ℕ) → e < lines → (get_or stored e no_line).earlier < point_limit
 
 -- the entries of c lines from `from` on
-unfoldable pub entry_words : List ℕ → ℕ → ℕ → List ℕ
-entry_words words from zero = []
-entry_words words from (suc c) = again (get_or words from 0) ∷ entry_words words (suc from) c
+unfoldable pub entry_words : List Line → ℕ → ℕ → List ℕ
+entry_words stored from zero = []
+entry_words stored from (suc c) = word_for (get_or stored from no_line) ∷ entry_words stored (suc from) c
 
 -- a point's record: mark, count and entries
-abbrev pub point_words : List ℕ → ℕ → ℕ → List ℕ
-point_words words from c = entries_mark ∷ c ∷ entry_words words from c
+abbrev pub point_words : List Line → ℕ → ℕ → List ℕ
+point_words stored from c = entries_mark ∷ c ∷ entry_words stored from c
 
 -- the records of c points, p, p + 1, .., whose lines begin at `from`, of `lines` in all
-unfoldable pub points_words : List ℕ → List ℕ → ℕ → ℕ → ℕ → ℕ → List ℕ
-points_words words later lines zero p from = []
-points_words words later lines (suc c) p from =
-    let count = count_of later p from (lines - from) in
-    point_words words from count ++ points_words words later lines c (suc p) (from + count)
+unfoldable pub points_words : List Line → ℕ → ℕ → ℕ → ℕ → List ℕ
+points_words stored lines zero p from = []
+points_words stored lines (suc c) p from =
+    let count = count_of stored p from (lines - from) in
+    point_words stored from count ++ points_words stored lines c (suc p) (from + count)
 
 -- the header, with the scale where it isn't 1
 abbrev pub head_words : ℕ → ℕ → List ℕ
 head_words n s = order_mark ∷ n ∷ (if eqb s 1 then [] else scale_mark ∷ s ∷ [])
 
 -- the whole file
-abbrev pub order_words : List ℕ → List ℕ → Counts → List ℕ
-order_words words later c = head_words c.n c.s ++ (points_words words later c.lines c.n 1 0 ++ (end_mark ∷ []))
+abbrev pub order_words : List Line → Counts → List ℕ
+order_words stored c = head_words c.n c.s ++ (points_words stored c.lines c.n 1 0 ++ (end_mark ∷ []))
 
 -- ---- what the writer asks, and what it leaves
 

@@ -4,55 +4,63 @@
 
 ghost use Rattle.std.specs.Prelude.{◌≡◌, ◌∷◌, map, eqb, ◌+◌, ◌*◌, ◌<◌, ◌≤◌, length};
 ghost use Rattle.std.specs.List.{prefix_len};
-ghost use Rattle.rules.specs.Points.{Drawing};
+ghost use Rattle.rules.specs.Points.{Drawing as Plan};
+ghost use Rattle.rules.specs.Entries.{point_limit};
 ghost use Rattle.rules.specs.OrderFile.{write_order, longest_order};
 ghost use Rattle.rules.specs.Records.{bytes_of, entries_mark};
 ghost use Rattle.store_links.specs.Arrays.{Stores};
 ghost use Rattle.store_tables.specs.Tables.{arrays_in};
 ghost use Rattle.exchange.specs.Built.{Whole};
 ghost use Rattle.pages.specs.Pages.{HasRoom, Grown};
-ghost use Rattle.write_orders.specs.Writing.{again, points_words, head_words, OrderWritable, OrderWritten};
+ghost use Rattle.write_orders.specs.Writing.{word_for, Joinable, points_words, head_words, OrderWritable, OrderWritten};
 
 use pages::Page;
-use rules::{ENTRIES_MARK, NUMBER_SIZE, ORDER_MARK, SCALE_MARK};
+use rules::{ENTRIES_MARK, Entry, Line, NUMBER_SIZE, ORDER_MARK, SCALE_MARK};
 use store_links::Counts;
-use store_tables::Table;
+use store_tables::Drawing;
 use write_records::{put_end, put_two};
 
-// An entry, put together again from its parts.
-fn joined(w: u16) -> u16
-    ensures { result ≡ again w }
+// The number of a line's entry.
+fn joined(l: Line) -> u16
+    requires { l.earlier < point_limit }
+    ensures { result ≡ word_for l }
 {
-    words::join(words::entry_of(w))
+    words::join(Entry {
+        point: l.earlier,
+        kind: l.kind,
+    })
 }
 
 // How many of these lines in succession have p as their later point.
-fn count_lines(later: &[u16], p: usize) -> usize
-    ensures { result ≡ prefix_len (λ q. eqb q p) later.now }
+fn count_lines(lines: &[Line], p: usize) -> usize
+    ensures { result ≡ prefix_len (λ l. eqb l.later p) lines.now }
 {
-    later.iter().take_while(|&&q| usize::from(q) == p).count()
+    lines
+        .iter()
+        .take_while(|l| usize::from(l.later) == p)
+        .count()
 }
 
-// Puts the record of a point whose lines have these entries behind what stands in the page.
-fn put_point(page: &mut Page<'_>, words: &[u16])
-    requires { (length words.now < 65536) × HasRoom page.old (4 + 2 * length words.now) }
-    ensures { Grown page.old (bytes_of (entries_mark ∷ length words.now ∷ map again words.now)) page.new }
+// Puts the record of a point that has these lines behind what stands in the page.
+fn put_point(page: &mut Page<'_>, lines: &[Line])
+    requires { (length lines.now < 65536) × HasRoom page.old (4 + 2 * length lines.now) × Joinable lines.now (length lines.now) }
+    ensures { Grown page.old (bytes_of (entries_mark ∷ length lines.now ∷ map word_for lines.now)) page.new }
 {
-    put_two(page, ENTRIES_MARK, words.len());
-    for &w in words {
-        page.word(joined(w));
+    put_two(page, ENTRIES_MARK, lines.len());
+    for &l in lines {
+        page.word(joined(l));
     }
 }
 
-// Puts the records of points 1 to n there in turn, each with the lines that are its own.
-fn put_points(page: &mut Page<'_>, words: &[u16], later: &[u16], n: usize, lines: usize)
-    requires { (length words.now ≡ 3072) × (length later.now ≡ 3072) × (n ≤ 1024) × (lines ≤ 3072) × HasRoom page.old (2 * length (points_words words.now later.now lines n 1 0)) }
-    ensures { Grown page.old (bytes_of (points_words words.now later.now lines n 1 0)) page.new }
+// Puts the records of points 1 to n there in turn, each with those of the first `all` lines that are its own.
+fn put_points(page: &mut Page<'_>, lines: &[Line], n: usize, all: usize)
+    requires { (length lines.now ≡ 3072) × (n ≤ 1024) × (all ≤ 3072) × Joinable lines.now all × HasRoom page.old (2 * length (points_words lines.now all n 1 0)) }
+    ensures { Grown page.old (bytes_of (points_words lines.now all n 1 0)) page.new }
 {
     let mut from = 0;
     for p in 1..=n {
-        let count = count_lines(&later[from..lines], p);
-        put_point(page, &words[from..from + count]);
+        let count = count_lines(&lines[from..all], p);
+        put_point(page, &lines[from..from + count]);
         from += count;
     }
 }
@@ -68,14 +76,15 @@ fn put_head(page: &mut Page<'_>, n: usize, s: usize)
     }
 }
 
-// Writes the order file of the finished drawing that the table holds. Returns the number of bytes.
-pub fn write_order(out: &mut [u8], table: &Table, c: Counts) -> usize
-    requires { OrderWritable out.old (arrays_in table.now) c }
-    ensures { (d : Drawing) → Whole d → Stores d (arrays_in table.now) c → OrderWritten d out.old out.new result }
+// Writes the order file of a finished drawing. Returns the number of bytes.
+pub fn write_order(out: &mut [u8], d: &Drawing) -> usize
+    requires { OrderWritable out.old (arrays_in d.now.table) d.now.counts }
+    ensures { (p : Plan) → Whole p → Stores p (arrays_in d.now.table) d.now.counts → OrderWritten p out.old out.new result }
 {
+    let c = d.counts;
     let mut page = Page::new(out);
     put_head(&mut page, c.n, c.s);
-    put_points(&mut page, &table.words, &table.later, c.n, c.lines);
+    put_points(&mut page, &d.table.lines, c.n, c.lines);
     put_end(&mut page);
     page.at
 }
@@ -83,7 +92,7 @@ pub fn write_order(out: &mut [u8], table: &Table, c: Counts) -> usize
 // How many bytes the order file of a finished drawing with these numbers has.
 pub fn order_length(c: Counts) -> usize
     requires { (3 ≤ c.n) × (c.n ≤ 1024) }
-    ensures exact { (d : Drawing) → Whole d → c.n ≡ d.n → c.s ≡ d.s → result ≡ length (write_order d) }
+    ensures exact { (p : Plan) → Whole p → c.n ≡ p.n → c.s ≡ p.s → result ≡ length (write_order p) }
     ensures within { result ≤ longest_order }
 {
     let plain = 10 * c.n - 6;

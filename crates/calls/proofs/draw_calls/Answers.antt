@@ -3,4 +3,4 @@ use Rattle.calls.proofs.Outcomes.{begun}
 use Rattle.calls.proofs.draw_calls.Goals as goal
 
 pub all_calls-requires : goal.all_calls-requires
-all_calls-requires c = begun _ _ c.requires.0 c.open_in-opened.ensures
+all_calls-requires c = begun _ c.requires.0 c.open_in.ensures

@@ -17,4 +17,4 @@ pub returns-then-answers-needed-clause-ran : goal.returns-then-answers-needed-cl
 returns-then-answers-needed-clause-ran c = rw c.at-then-answers-needed.ensures (too_short (omega arith) (omega arith) (omega arith))
 
 pub returns-clause-ran : goal.returns-clause-ran
-returns-clause-ran c = accepted _ (record { low = omega arith; high = omega arith; room = omega arith }) c.draw_calls-counts.ensures
+returns-clause-ran c = accepted _ (record { low = omega arith; high = omega arith; room = omega arith }) c.draw_calls.ensures

@@ -2,13 +2,12 @@
 use Rattle.std.proofs.Common.{◌≡◌, ◌*◌, ◌≤◌, length}
 use Rattle.rules.specs.Points.{Drawing as Plan}
 use Rattle.rules.specs.Moves.{Tool as WholeTool}
-use Rattle.store_laws.specs.Adding.{Holds}
-use Rattle.store_tables.specs.Tables.{arrays_in}
+use Rattle.store_laws.specs.Stored.{Is}
 use Rattle.cutter.specs.Numbering.{moves_to}
 use Rattle.cutter.proofs.count_moves.Given as goal
 
 abbrev pub invariant-loop-line : goal.invariant-loop-line
 invariant-loop-line l = record {
   few : l.count ≤ 10 * l.line;
-  is : (q : Plan) (t : WholeTool) → Holds q (arrays_in l.table) l.c → 1 ≤ t.pitch → l.count ≡ length (moves_to q t l.line);
+  is : (q : Plan) (t : WholeTool) → Is q l.view.drawing.now → 1 ≤ t.pitch → l.count ≡ length (moves_to q t l.line);
 }

@@ -1,6 +1,6 @@
 -- The settled drawing is the same.
 use Rattle.std.proofs.Common.{sym, subst}
-use Rattle.drawing.specs.View.{Is}
+use Rattle.store_laws.specs.Stored.{Is}
 use Rattle.drawing.proofs.line.Goals as goal
 
 pub returns : goal.returns

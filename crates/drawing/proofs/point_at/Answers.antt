@@ -5,4 +5,4 @@ use Rattle.answers.specs.Told.{told_point, point-told}
 use Rattle.drawing.proofs.point_at.Goals as goal
 
 pub returns : goal.returns
-returns c = λ q h. ap told_point (c.look_point.ensures q h) ∙ point-told (look_point q c.args.p)
+returns c = λ q h. ap told_point (c.look_point.ensures q (rw c.view.ensures.drawing h)) ∙ point-told (look_point q c.args.p)

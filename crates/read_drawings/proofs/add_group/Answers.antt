@@ -7,11 +7,11 @@ pub returns-in-Ok : goal.returns-in-Ok
 returns-in-Ok c =
     let m = c.moved_to-group.ensures in
     let taken = rw (m.same_file, m.place, c.line_size.ensures.value) at c.take_group-count.ensures in
-    λ d h. group-added c.args.style c.args.lines.now.file.now _ _ _ _ _ _ _ _ c.requires.0.few (omega (arith, c.requires.0.most, c.requires.1, c.take_group-count.auto.e)) refl taken d h (rw c.in-Ok.is at c.add.ensures)
+    λ p h. group-added c.args.style c.args.lines.now.file.now _ _ _ _ _ _ _ c.requires.0.few (omega (arith, c.requires.0.most, c.requires.1, c.take_group-count.auto.e)) refl taken p h (rw c.in-Ok.is at c.add.ensures)
 
 pub returns-in-Err : goal.returns-in-Err
 returns-in-Err c =
     let m = c.moved_to-group.ensures in
     let taken = rw (m.same_file, m.place, c.line_size.ensures.value) at c.take_group-count.ensures in
     rw (c.at.ensures, m.place, c.line_size.ensures.value)
-    (λ d h. group-refused c.args.style c.args.lines.now.file.now _ _ _ _ _ _ _ _ c.requires.0.few (omega (arith, c.requires.0.most, c.requires.1, c.take_group-count.auto.e)) refl taken d h (rw c.in-Err.is at c.add.ensures))
+    (λ p h. group-refused c.args.style c.args.lines.now.file.now _ _ _ _ _ _ _ c.requires.0.few (omega (arith, c.requires.0.most, c.requires.1, c.take_group-count.auto.e)) refl taken p h (rw c.in-Err.is at c.add.ensures))

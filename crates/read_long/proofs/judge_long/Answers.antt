@@ -2,6 +2,7 @@
 use Rattle.std.specs.Prelude.{ℕ, ◌≡◌, ◌+◌, ◌*◌, ◌<◌, ◌≤◌, List, length, get_or, drop}
 use Rattle.std.proofs.Common.{sym, ◌∙◌, arith, drop_of_length-le}
 use Rattle.rules.specs.Records.{words_in}
+use Rattle.store_tables.specs.Tables.{arrays_in}
 use Rattle.words.specs.Bytes.{word_at}
 use Rattle.store_judging.specs.Passed.{entry-refused, entry_passed}
 use Rattle.read_records.specs.Cursors.{words_count}
@@ -23,14 +24,11 @@ module _ (f : List ℕ) (from count : ℕ) (there : from + 2 * count ≤ length 
   entry_is : (i : ℕ) → i < count → (w : ℕ) → w ≡ word_at f (from + 2 * i) → w ≡ get_or words i 0
   entry_is i h w is = is ∙ sym (words_in_lem f count from there i h)
 
-pub returns-then-c : goal.returns-then-c
-returns-then-c c =
+pub returns-then-d : goal.returns-then-d
+returns-then-d c =
     let f = c.args.entries.now.file.now in
     let at = c.args.entries.now.at in
-    λ d h. long-finished h (words f at c.args.count c.requires.there) (many f at c.args.count c.requires.there c.requires.many) c.if-c.true
-
-pub judge_entry-requires : goal.judge_entry-requires
-judge_entry-requires c = (omega arith, omega arith)
+    λ d h. long-finished h (words f at c.args.count c.requires.there) (many f at c.args.count c.requires.there c.requires.many) c.if-d.true
 
 pub returns-in-Err : goal.returns-in-Err
 returns-in-Err c =
@@ -39,8 +37,8 @@ returns-in-Err c =
     let n = c.args.count in
     let t = c.requires.there in
     let i = c.loop-i.i in
-    λ d h. long-entry h (words f at n t) (many f at n t c.requires.many) c.if-c.false _ _
-    (c.loop-i.invariant ∙ entry-refused c.args.table.now.owner (words f at n t) c.args.c.k i _ (more f at n t i c.loop-i-test.true) (entry_is f at n t i c.loop-i-test.true _ c.word_at-e.ensures) c.judge_entry.ensures _ c.in-Err.is)
+    λ d h. long-entry h (words f at n t) (many f at n t c.requires.many) c.if-d.false _ _
+    (c.loop-i.invariant ∙ entry-refused (arrays_in c.args.d.now.table).owner (words f at n t) c.args.d.now.counts.k i _ (more f at n t i c.loop-i-test.true) (entry_is f at n t i c.loop-i-test.true _ c.word_at-e.ensures) c.judge_entry.ensures _ c.in-Err.is)
 
 pub loop-i-preserved : goal.loop-i-preserved
 loop-i-preserved c =
@@ -49,7 +47,7 @@ loop-i-preserved c =
     let n = c.args.count in
     let t = c.requires.there in
     let i = c.loop-i.i in
-    c.loop-i.invariant ∙ entry_passed c.args.table.now.owner (words f at n t) c.args.c.k i _ (more f at n t i c.loop-i-test.true) (entry_is f at n t i c.loop-i-test.true _ c.word_at-e.ensures) c.judge_entry.ensures c.in_default.is
+    c.loop-i.invariant ∙ entry_passed (arrays_in c.args.d.now.table).owner (words f at n t) c.args.d.now.counts.k i _ (more f at n t i c.loop-i-test.true) (entry_is f at n t i c.loop-i-test.true _ c.word_at-e.ensures) c.judge_entry.ensures c.in_default.is
 
 pub returns : goal.returns
 returns c =
@@ -57,5 +55,5 @@ returns c =
     let at = c.args.entries.now.at in
     let n = c.args.count in
     let t = c.requires.there in
-    λ d h. long-run h (words f at n t) (many f at n t c.requires.many) c.if-c.false
+    λ d h. long-run h (words f at n t) (many f at n t c.requires.many) c.if-d.false
     (c.loop-i.invariant ∙ rw (drop_of_length-le (words f at n t) {i = c.loop-i.i} (rw (words_count f at n t) c.loop-i-test.false)))

@@ -1,9 +1,7 @@
--- `store_points::push_lines` meets its contract: after i turns the lines of the entries 0 to i - 1 are there.
+-- `push_lines` meets its contract: after i turns the lines of the entries 0 to i - 1 are there.
 use mathlib.Core.Path.{◌≡◌}
-use Rattle.store_links.specs.Storing.{code_of}
-use Rattle.store_tables.specs.Tables.{arrays_in}
-use Rattle.store_calls.specs.Stages.{lined}
+use Rattle.store_links.specs.Storing.{filled, new_line}
 use Rattle.store_calls.proofs.push_lines.Given as goal
 
 abbrev pub invariant-loop-i : goal.invariant-loop-i
-invariant-loop-i l = arrays_in l.table ≡ lined (arrays_in l.initial.table) l.e l.at l.new (code_of l.style l.rights l.lefts l.last l.from) l.i
+invariant-loop-i l = l.lines ≡ filled (new_line l.c.style l.new l.rights l.lefts l.from l.e) l.initial.lines l.c.lines l.i

@@ -1,6 +1,7 @@
 -- Each return gives the answer of the first test that fails.
 use Rattle.std.proofs.Common.{Err, ap, sym, ◌∙◌, arith}
 use Rattle.rules.specs.Results.{accepted, handed_on}
+use Rattle.store_tables.specs.Tables.{arrays_in}
 use Rattle.store_judging.specs.Passed.{entries-within, within_up}
 use Rattle.store_judging.proofs.Stages.{finished, few, at_entries, at_run, not_last, not_whole, whole}
 use Rattle.store_judging.proofs.judge.Goals.{else-k-n-via-then-k-n+else-e-m, else-k-n-via-else-k-n}
@@ -19,8 +20,9 @@ returns-in_err-judge_entries c =
 
 pub judge_run-requires : goal.judge_run-requires
 judge_run-requires c =
-    let a = c.args in
-    (c.requires.1, within_up a.c.k 1024 a.e.now c.requires.2 (entries-within a.owner.now a.c.k 0 a.e.now (accepted _ (sym c.judge_entries.ensures ∙ c.in_ok-judge_entries.was)).is))
+    let d = c.args.d.now in
+    let e = c.args.e.now in
+    within_up d.counts.k 1024 e c.requires (entries-within (arrays_in d.table).owner d.counts.k 0 e (accepted _ (sym c.judge_entries.ensures ∙ c.in_ok-judge_entries.was)).is)
 
 pub returns-in_err-judge_run : goal.returns-in_err-judge_run
 returns-in_err-judge_run c =

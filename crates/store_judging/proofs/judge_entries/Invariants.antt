@@ -3,7 +3,8 @@ use Prim.Native.Nat.{◌≤◌}
 use mathlib.Core.Path.{◌≡◌}
 use lib.ListN.{length, drop}
 use Rattle.store_links.specs.Judging.{entries_pass}
+use Rattle.store_tables.specs.Tables.{arrays_in}
 use Rattle.store_judging.proofs.judge_entries.Given as goal
 
 abbrev pub invariant-loop-i : goal.invariant-loop-i
-invariant-loop-i l = (l.i ≤ length l.e) × (entries_pass l.owner l.k 0 l.e ≡ entries_pass l.owner l.k l.i (drop l.i l.e))
+invariant-loop-i l = (l.i ≤ length l.e) × (entries_pass (arrays_in l.d.table).owner l.d.counts.k 0 l.e ≡ entries_pass (arrays_in l.d.table).owner l.d.counts.k l.i (drop l.i l.e))

@@ -5,4 +5,4 @@ use Rattle.store_looking.specs.Cuts.{cut_at}
 use Rattle.store_looking.proofs.first_cut.Given as goal
 
 abbrev pub invariant-loop-e : goal.invariant-loop-e
-invariant-loop-e l = (i : ℕ) → i < l.e → cut_at (arrays_in l.table) l.p i ≡ false
+invariant-loop-e l = (i : ℕ) → i < l.e → cut_at (arrays_in l.d.table) l.p i ≡ false

@@ -2,17 +2,13 @@
 use Rattle.store_looking.specs.Lines.{line-bends, line_seen_lem, straight_seen}
 use Rattle.store_looking.proofs.look_line.Goals as goal
 
-pub bend_of-at-requires : goal.bend_of-at-requires
-bend_of-at-requires c =
-    let h = c.requires.0.holds in
-    rw (c.from-to.ensures, c.from-from.ensures)
-    (line-bends h c.requires.1 c.args.e c.if-c-e.false c.line_in-l.result c.line_in-l.ensures)
+pub bend_of-requires : goal.bend_of-requires
+bend_of-requires c = line-bends c.requires.0.holds c.requires.1 c.args.e c.if-d-e.false
 
 pub returns-in_default : goal.returns-in_default
 returns-in_default c =
-    λ q h. straight_seen h c.requires.1 c.args.e c.if-c-e.false c.line_in-l.result c.line_in-l.ensures c.in_default.is
+    λ q h. straight_seen h c.requires.1 c.args.e c.if-d-e.false c.in_default.is
 
 pub returns : goal.returns
 returns c =
-    λ q h. rw (c.bend_of-at.ensures, c.from-to.ensures, c.from-from.ensures)
-    (line_seen_lem h c.requires.1 c.args.e c.if-c-e.false c.line_in-l.result c.line_in-l.ensures c.in-OneBend.is)
+    λ q h. rw c.bend_of.ensures (line_seen_lem h c.requires.1 c.args.e c.if-d-e.false c.in-OneBend.is)

@@ -2,10 +2,11 @@
 use mathlib.Core.Path.{◌≡◌}
 use Prim.Native.Nat.{suc, ◌≤◌, ◌+◌, ◌*◌, ◌-◌}
 use Rattle.store_links.specs.Placing.{way, change_from, inner_count}
+use Rattle.store_tables.specs.Tables.{arrays_in}
 use Rattle.store_placing.proofs.change_at.Given as goal
 
 abbrev pub invariant-scan : goal.invariant-scan
-invariant-scan l = (l.passed ≤ inner_count l.e) × (l.a ≡ way l.gap l.e l.passed + l.p.s1) × (l.a ≤ l.p.s1 + 65535 * l.passed) × (change_from l.p l.gap l.ys l.e 1 (inner_count l.e) ≡ change_from l.p l.gap l.ys l.e (suc l.passed) (inner_count l.e - l.passed))
+invariant-scan l = (l.passed ≤ inner_count l.e) × (l.a ≡ way (arrays_in l.table).gap l.e l.passed + l.p.s1) × (l.a ≤ l.p.s1 + 65535 * l.passed) × (change_from l.p (arrays_in l.table).gap (arrays_in l.table).ys l.e 1 (inner_count l.e) ≡ change_from l.p (arrays_in l.table).gap (arrays_in l.table).ys l.e (suc l.passed) (inner_count l.e - l.passed))
 
 abbrev pub decreases-scan : goal.decreases-scan
 decreases-scan l = inner_count l.e - l.passed

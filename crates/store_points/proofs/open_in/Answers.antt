@@ -1,9 +1,17 @@
--- The words are those of `open_arrays`, over zeros.
-use Rattle.std.proofs.Common.{refl}
+-- The points and lines are those of `open_arrays`, over a blank drawing.
+use Rattle.std.proofs.Common.{◌≡◌, ◌-◌, refl}
+use Rattle.rules.specs.declared.Style.{Style}
+use Rattle.rules.specs.declared.Style.TheVariants.{OneBend, Straight}
+use Rattle.rules.specs.Styles.{second_x, third_x}
 use Rattle.store_links.specs.Opening.{open_arrays}
 use Rattle.store_points.proofs.open_in.Goals as goal
+
+-- Point 3 stands as far from point 1 as from point 2.
+halfway : (τ : Style) → second_x τ - third_x τ ≡ third_x τ
+halfway OneBend = refl
+halfway Straight = refl
 
 pub returns : goal.returns
 unfolding open_arrays
 returns c =
-    (rw (c.three.ensures, c.three-2.ensures, c.three-3.ensures, c.three-4.ensures, c.three-5.ensures, c.three-6.ensures, c.three-7.ensures, c.three-8.ensures, c.requires, c.third_x-x.ensures, c.third_y-y.ensures, c.taken-ports.ensures, c.line_code-right.ensures, c.line_code-left.ensures) refl, refl)
+    (rw (c.three.ensures, c.three-2.ensures, c.requires, c.second_x.ensures, c.third_x-x.ensures, c.third_y.ensures, c.taken-ports.ensures, halfway c.args.style, c.line_of-ground.ensures, c.line_of.ensures, c.line_of-2.ensures, c.bent-right.ensures, c.bent-left.ensures) refl, refl)

@@ -1,54 +1,57 @@
 -- What is left to walk with the x of now gives what all gives with the x at entry.
-use Rattle.std.proofs.Common.{ℕ, ◌+◌, ◌-◌, ◌<◌, ◌≡◌, suc, sym, ◌∙◌, List, length-set, get_or, arith}
+use Rattle.std.proofs.Common.{ℕ, pred, ◌+◌, ◌-◌, ◌<◌, ◌≤◌, ◌≡◌, suc, sym, ap, ◌∙◌, List, length-set, sub-one, arith}
+use Rattle.store_links.specs.Arrays.{at_point}
+use Rattle.store_tables.specs.declared.Point.{Point}
+use Rattle.store_tables.specs.Tables.{arrays_in}
 use Rattle.store_settling.specs.Walk.{Walks, walked-past, walked_none, walked-go, walks-go}
 use Rattle.store_settling.proofs.walk.Goals as goal
 
--- what the walk is known to be at the next point, p
-turn : (next gap : List ℕ) (from at : ℕ) {left p : ℕ} → 0 < left → p ≡ get_or next from 0 → 0 < p → Walks next gap left (get_or next from 0) at →
-    (p - 1 < 1024) × (at + get_or gap (p - 1) 0 < 65536) × Walks next gap (left - 1) (get_or next (p - 1) 0) (at + get_or gap (p - 1) 0)
-turn next gap from at {left} {p} l e n w =
+-- what the walk is known to be at the point p
+turn : (next gap : List ℕ) (at : ℕ) {left p : ℕ} → 0 < left → 0 < p → Walks next gap left p at →
+    (p ≤ 1024) × (at + at_point gap p < 65536) × Walks next gap (left - 1) (at_point next p) (at + at_point gap p)
+turn next gap at {left} {p} l n w =
     let steps : left ≡ suc (left - 1) = omega arith in
-    let point : get_or next from 0 ≡ suc (p - 1) = omega arith in
-    walks-go next gap steps point at w
-
-pub loop-step-init : goal.loop-step-init
-loop-step-init c =
-    let e : c.args.k - 0 ≡ c.args.k = omega arith in
-    (omega arith, length-set _ 0 0 ∙ c.requires.0, rw e c.requires.3, rw e)
+    let point : p ≡ suc (pred p) = omega arith in
+    let t = walks-go next gap steps point at w in
+    (omega (arith, t.0), t.1, t.2)
 
 pub returns-then-p-eq0 : goal.returns-then-p-eq0
 returns-then-p-eq0 c =
-    let a = c.args in
-    sym (walked-past a.next.now a.gap.now (c.args.k - c.loop-step._step) _ c.loop-step.at c.loop-step.x (sym c.from-p.ensures ∙ c.if-p-eq0.true)) ∙ c.loop-step.invariant.3
+    let a = arrays_in c.args.table.now in
+    sym (walked-past a.next a.gap (c.args.k - c.loop-step._step) c.loop-step.p c.loop-step.at c.loop-step.x c.if-p-eq0.true) ∙ c.loop-step.invariant.2
 
-pub bounds-gap-q : goal.bounds-gap-q
-bounds-gap-q c = omega (arith, turn c.args.next.now c.args.gap.now c.loop-step.from c.loop-step.at (omega arith) c.from-p.ensures (omega arith) c.loop-step.invariant.2)
+pub point-point-requires : goal.point-point-requires
+point-point-requires c = omega (arith, (turn (arrays_in c.args.table.now).next (arrays_in c.args.table.now).gap c.loop-step.at (omega arith) (omega arith) c.loop-step.invariant.1).0)
 
 pub overflow_add-at : goal.overflow_add-at
-overflow_add-at c = omega (arith, c.from-at.ensures, turn c.args.next.now c.args.gap.now c.loop-step.from c.loop-step.at (omega arith) c.from-p.ensures (omega arith) c.loop-step.invariant.2)
+overflow_add-at c = omega (arith, (turn (arrays_in c.args.table.now).next (arrays_in c.args.table.now).gap c.loop-step.at (omega arith) (omega arith) c.loop-step.invariant.1).1, c.from-at.ensures ∙ ap (λ (q : Point). q.gap) c.point-point.ensures)
 
 pub overflow_cast-x : goal.overflow_cast-x
-overflow_cast-x c = omega (arith, c.from-at.ensures, turn c.args.next.now c.args.gap.now c.loop-step.from c.loop-step.at (omega arith) c.from-p.ensures (omega arith) c.loop-step.invariant.2)
+overflow_cast-x c = omega (arith, (turn (arrays_in c.args.table.now).next (arrays_in c.args.table.now).gap c.loop-step.at (omega arith) (omega arith) c.loop-step.invariant.1).1, c.from-at.ensures ∙ ap (λ (q : Point). q.gap) c.point-point.ensures)
 
-pub bounds-x-q : goal.bounds-x-q
-bounds-x-q c = omega (arith, turn c.args.next.now c.args.gap.now c.loop-step.from c.loop-step.at (omega arith) c.from-p.ensures (omega arith) c.loop-step.invariant.2)
+pub offset_bounds-x-p : goal.offset_bounds-x-p
+offset_bounds-x-p c = omega (arith, (turn (arrays_in c.args.table.now).next (arrays_in c.args.table.now).gap c.loop-step.at (omega arith) (omega arith) c.loop-step.invariant.1).0)
+
+pub bounds-x-p : goal.bounds-x-p
+bounds-x-p c = omega (arith, (turn (arrays_in c.args.table.now).next (arrays_in c.args.table.now).gap c.loop-step.at (omega arith) (omega arith) c.loop-step.invariant.1).0)
 
 pub loop-step-preserved : goal.loop-step-preserved
 loop-step-preserved c =
-    let a = c.args in
-    let t = turn a.next.now a.gap.now c.loop-step.from c.loop-step.at (omega arith) c.from-p.ensures (omega arith) c.loop-step.invariant.2 in
+    let a = arrays_in c.args.table.now in
+    let p = c.loop-step.p in
+    let t = turn a.next a.gap c.loop-step.at (omega arith) (omega arith) c.loop-step.invariant.1 in
+    let gone = c.from-at.ensures ∙ ap (λ (q : Point). q.gap) c.point-point.ensures in
+    let went = c.from-p-in-loop-step.ensures ∙ ap (λ (q : Point). q.next) c.point-point.ensures in
     let steps : c.args.k - c.loop-step._step ≡ suc (c.args.k - c.loop-step._step - 1) = omega arith in
-    let point : get_or a.next.now c.loop-step.from 0 ≡ suc (c.from-p.result - 1) = omega (arith, c.from-p.ensures, c.if-p-eq0.false) in
-    let less : c.args.k - (c.loop-step._step + 1) ≡ c.args.k - c.loop-step._step - 1 = omega arith in
-    let gone = c.from-at.ensures in (
-      t.0,
-      length-set c.loop-step.x (c.from-p.result - 1) (c.loop-step.at + c.from-at.result) ∙ c.loop-step.invariant.1,
-      rw (less, gone) t.2,
-      rw (less, gone) (sym (walked-go a.next.now a.gap.now steps point c.loop-step.at c.loop-step.x) ∙ c.loop-step.invariant.3),
+    let point : p ≡ suc (pred p) = omega (arith, c.if-p-eq0.false) in
+    let less : c.args.k - (c.loop-step._step + 1) ≡ c.args.k - c.loop-step._step - 1 = omega arith in (
+      length-set c.loop-step.x (p - 1) _ ∙ c.loop-step.invariant.0,
+      rw (less, went, gone) t.2,
+      rw (less, went, gone, sub-one p) (sym (walked-go a.next a.gap steps point c.loop-step.at c.loop-step.x) ∙ c.loop-step.invariant.2),
     )
 
 pub returns : goal.returns
 returns c =
-    let a = c.args in
+    let a = arrays_in c.args.table.now in
     let n : c.args.k - c.loop-step._step ≡ 0 = omega arith in
-    sym (walked_none a.next.now a.gap.now (get_or a.next.now c.loop-step.from 0) c.loop-step.at c.loop-step.x n) ∙ c.loop-step.invariant.3
+    sym (walked_none a.next a.gap c.loop-step.p c.loop-step.at c.loop-step.x n) ∙ c.loop-step.invariant.2

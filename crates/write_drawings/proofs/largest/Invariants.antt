@@ -1,8 +1,9 @@
--- `largest`: `top` is the largest of the numbers before this one.
+-- `largest`: `top` is the largest height of the points before this one.
 use mathlib.Core.Path.{◌≡◌}
 use lib.ListN.{take}
 use Rattle.rules.specs.DrawingFile.{highest}
+use Rattle.store_tables.specs.Tables.{ys}
 use Rattle.write_drawings.proofs.largest.Given as goal
 
-abbrev pub invariant-loop-y : goal.invariant-loop-y
-invariant-loop-y l = l.top ≡ highest (take l.y-index l.ys)
+abbrev pub invariant-loop-p : goal.invariant-loop-p
+invariant-loop-p l = l.top ≡ highest (take l.p-index (ys l.points))

@@ -11,14 +11,15 @@ loop-e-init c = none_put _ _ (omega (arith, c.requires.room))
 
 pub write_line-requires : goal.write_line-requires
 write_line-requires c =
-    let a = c.args in
+    let v = c.args.view.now in
+    let n = v.drawing.now.counts in
     let e = c.loop-e.e in
     let before = c.loop-e.invariant in
-    let up : line_size a.c.style * (e + 1) ≤ line_size a.c.style * a.c.lines = mul-le-mul (omega arith) (omega arith) in
+    let up : line_size n.style * (e + 1) ≤ line_size n.style * n.lines = mul-le-mul (omega arith) (omega arith) in
     record {
       line = omega (arith, c.requires.few);
       fits = c.requires.fits e (omega arith);
-      room = omega (arith, up, c.requires.room, before.size, lines_end a.c.style a.c.s a.x.now (arrays_in a.table.now) e before);
+      room = omega (arith, up, c.requires.room, before.size, lines_end n.style n.s v.x.now (arrays_in v.drawing.now.table) e before);
     }
 
 pub loop-e-preserved : goal.loop-e-preserved

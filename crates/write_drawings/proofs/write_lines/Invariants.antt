@@ -5,4 +5,6 @@ use Rattle.write_drawings.specs.Lists.{several, line_bytes}
 use Rattle.write_drawings.proofs.write_lines.Given as goal
 
 abbrev pub invariant-loop-e : goal.invariant-loop-e
-invariant-loop-e l = Grown l.initial.page (several (line_bytes l.c.style l.c.s l.x (arrays_in l.table)) l.e) l.page
+invariant-loop-e l =
+    let d = l.view.drawing.now in
+    Grown l.initial.page (several (line_bytes d.counts.style d.counts.s l.view.x.now (arrays_in d.table)) l.e) l.page

@@ -1,5 +1,6 @@
 -- `write_points`: one record more.
-use Rattle.std.proofs.Common.{arith}
+use Rattle.std.proofs.Common.{arith, add-one}
+use Rattle.store_tables.specs.Tables.{ys}
 use Rattle.write_drawings.specs.Lists.{point_bytes}
 use Rattle.write_drawings.specs.Stores.{none_put, record_more}
 use Rattle.write_drawings.proofs.Written.{points_end, point-put}
@@ -10,11 +11,13 @@ loop-i-init c = none_put _ _ (omega (arith, c.requires.room))
 
 pub words-requires : goal.words-requires
 words-requires c =
-    let a = c.args in
+    let v = c.args.view.now in
+    let d = v.drawing.now in
     let before = c.loop-i.invariant in
-    omega (arith, c.requires.room, before.size, points_end a.s a.x.now a.ys.now c.loop-i.i before)
+    omega (arith, c.requires.room, before.size, points_end d.counts.s v.x.now (ys d.table.points) c.loop-i.i before)
 
 pub loop-i-preserved : goal.loop-i-preserved
 loop-i-preserved c =
-    let a = c.args in
-    record_more (point_bytes a.s a.x.now a.ys.now) c.loop-i.i c.loop-i.invariant (point-put a.s a.x.now a.ys.now c.loop-i.i c.scaled.ensures c.scaled-in-loop-i.ensures c.words.ensures)
+    let v = c.args.view.now in
+    let d = v.drawing.now in
+    record_more (point_bytes d.counts.s v.x.now (ys d.table.points)) c.loop-i.i c.loop-i.invariant (point-put d.counts.s v.x.now (ys d.table.points) c.loop-i.i c.scaled.ensures (rw (c.point-y.ensures, add-one) at c.scaled-in-loop-i.ensures) c.words.ensures)

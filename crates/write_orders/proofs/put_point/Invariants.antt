@@ -1,9 +1,9 @@
--- `put_point`: the entries before this one are written.
+-- `put_point`: the entries of the lines before this one are written.
 use Rattle.std.specs.Prelude.{◌∷◌, length, map, take}
 use Rattle.rules.specs.Records.{bytes_of, entries_mark}
 use Rattle.pages.specs.Pages.{Grown}
-use Rattle.write_orders.specs.Writing.{again}
+use Rattle.write_orders.specs.Writing.{word_for}
 use Rattle.write_orders.proofs.put_point.Given as goal
 
-abbrev pub invariant-loop-w : goal.invariant-loop-w
-invariant-loop-w l = Grown l.fn.page (bytes_of (entries_mark ∷ length l.words ∷ map again (take l.w-index l.words))) l.page
+abbrev pub invariant-loop-l : goal.invariant-loop-l
+invariant-loop-l l = Grown l.fn.page (bytes_of (entries_mark ∷ length l.lines ∷ map word_for (take l.l-index l.lines))) l.page

@@ -13,12 +13,13 @@ pub put_points-requires : goal.put_points-requires
 put_points-requires c =
     let h = parts c.requires in
     let head = c.put_head.ensures in
-    (omega arith, omega arith, h.n, h.lines, omega (arith, h.room, c.new-page.ensures.at, ap length c.new-page.ensures.bytes, (pasted (head_words c.args.c.n c.args.c.s) head).behind, head.size))
+    (omega arith, h.n, h.lines, h.low, omega (arith, h.room, c.new-page.ensures.at, ap length c.new-page.ensures.bytes, (pasted (head_words c.args.d.now.counts.n c.args.d.now.counts.s) head).behind, head.size))
 
 pub put_end-requires : goal.put_end-requires
 put_end-requires c =
     let h = parts c.requires in
-    let t = c.args.table.now in
+    let d = c.args.d.now in
+    let n = d.counts in
     let head = c.put_head.ensures in
     let points = c.put_points.ensures in
     omega (
@@ -26,16 +27,16 @@ put_end-requires c =
       h.room,
       c.new-page.ensures.at,
       ap length c.new-page.ensures.bytes,
-      (pasted (head_words c.args.c.n c.args.c.s) head).behind,
+      (pasted (head_words n.n n.s) head).behind,
       head.size,
-      (pasted (points_words t.words t.later c.args.c.lines c.args.c.n 1 0) points).behind,
+      (pasted (points_words d.table.lines n.lines n.n 1 0) points).behind,
       points.size,
     )
 
 pub returns : goal.returns
 returns c =
-    let t = c.args.table.now in
-    let n = c.args.c in
-    let points = points_words t.words t.later n.lines n.n 1 0 in
+    let d = c.args.d.now in
+    let n = d.counts in
+    let points = points_words d.table.lines n.lines n.n 1 0 in
     order-written c.new-page.ensures.at c.new-page.ensures.bytes
     (words_both (head_words n.n n.s) _ c.put_head.ensures (words_both points (end_mark ∷ []) c.put_points.ensures c.put_end.ensures)) (search rules)

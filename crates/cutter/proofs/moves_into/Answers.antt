@@ -1,0 +1,5 @@
+-- `moves_into` meets its contract: the moves are those of the drawing that it lends.
+use Rattle.cutter.proofs.moves_into.Goals as goal
+
+pub returns : goal.returns
+returns c q h = c.look_moves.ensures q (rw c.view.ensures.drawing h)
