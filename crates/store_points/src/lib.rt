@@ -1,5 +1,5 @@
 // The points in the lent table: those of a drawing as opened, and what changes at the points of a run and at the new point.
-// For the crates above: opening asks for a table of zeros, the others for a run that passed the tests and for the new point's place.
+// For the crates above: opening asks for a blank drawing, the others for a run that passed the tests and for the new point's place.
 #![tactic(auto)]
 
 ghost use Rattle.std.specs.Prelude.{◌≡◌, ◌<◌, ◌≤◌, length, set};

@@ -14,4 +14,5 @@ halfway Straight = refl
 pub returns : goal.returns
 unfolding open_arrays
 returns c =
-    (rw (c.three.ensures, c.three-2.ensures, c.requires, c.second_x.ensures, c.third_x-x.ensures, c.third_y.ensures, c.taken-ports.ensures, halfway c.args.style, c.line_of-ground.ensures, c.line_of.ensures, c.line_of-2.ensures, c.bent-right.ensures, c.bent-left.ensures) refl, refl)
+    let between : c.second_x.result - c.third_x-x.result ≡ third_x c.args.style = rw (c.second_x.ensures, c.third_x-x.ensures) (halfway c.args.style) in
+    (rw (c.three.ensures, c.three-2.ensures, c.requires, between, c.third_x-x.ensures, c.third_y.ensures, c.taken-ports.ensures, c.line_of-ground.ensures, c.line_of.ensures, c.line_of-2.ensures, c.bent-right.ensures, c.bent-left.ensures) refl, refl)
