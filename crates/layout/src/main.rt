@@ -2,10 +2,9 @@
 // Standard input holds 16-bit numbers, low byte first: n, the number of rounds, then the calls, each a count and its entries.
 #![tactic(auto)]
 
-ghost use Rattle.std.specs.Prelude.{◌<◌, ◌≤◌, length};
+ghost use Rattle.std.specs.Prelude.{◌≤◌, length};
 
-use drawing::Drawing;
-use rules::{Bend, Style};
+use rules::Style;
 use std::io;
 
 // Turns the bytes into numbers, as many as both hold; gives how many.
@@ -19,24 +18,8 @@ fn take_words(bytes: &[u8], out: &mut [u16]) -> usize
     count
 }
 
-// What the drawing keeps of one point and of one line, mixed.
-fn mix(d: &Drawing, at: usize) -> u16
-    requires { at < 1024 }
-{
-    let p = d.table.points[at];
-    let l = d.table.lines[at];
-    let port = match l.bend {
-        Bend::NoBend => 0,
-        Bend::Left(j) | Bend::Right(j) | Bend::Middle(j) => j,
-    };
-    let links = p.next ^ p.gap ^ p.owner;
-    let point = p.y ^ p.dl ^ p.dr ^ p.h;
-    let line = l.later ^ l.earlier ^ words::last_field(l.kind);
-    links ^ point ^ line ^ port
-}
-
 // Makes the calls `rounds` times; gives the number of points placed, or none if the calls are refused or a round's drawing differs from the one before.
-// Of the points and of the lines one is compared: the compiler can't know which, so it can't leave out the work of storing them all.
+// Of the points, the lines and the answers one is compared: the compiler can't know which, so it can't leave out the work of storing them all.
 fn repeat(n: usize, rounds: usize, calls: &[u16]) -> Option<usize> {
     let mut answers = [0u16; 2048];
     let at = rounds % 1024;
@@ -44,13 +27,13 @@ fn repeat(n: usize, rounds: usize, calls: &[u16]) -> Option<usize> {
     let mut placed = 0;
     for _ in 0..rounds {
         let drawn = calls::run(Style::OneBend, n, calls, &mut answers).ok()?;
-        let mixed = mix(&drawn, at) ^ answers[at];
+        let kept = (drawn.table.points[at], drawn.table.lines[at], answers[at]);
         if let Some(before) = seen {
-            if mixed != before {
+            if kept != before {
                 return None;
             }
         }
-        seen = Some(mixed);
+        seen = Some(kept);
         placed = drawn.counts.k;
     }
     Some(placed)
