@@ -5,7 +5,7 @@
 ghost use Rattle.std.specs.Prelude.{◌<◌, ◌≤◌, length};
 
 use drawing::Drawing;
-use rules::Style;
+use rules::{Bend, Style};
 use std::io;
 use std::io::Read;
 
@@ -20,19 +20,23 @@ fn take_words(bytes: &[u8], out: &mut [u16]) -> usize
     count
 }
 
-// One number of each array of the drawing, mixed.
-fn mix(d: Drawing, at: usize) -> u16
+// What the drawing keeps of one point and of one line, mixed.
+fn mix(d: &Drawing, at: usize) -> u16
     requires { at < 1024 }
 {
-    let t = &d.table;
-    let links = t.next[at] ^ t.gap[at] ^ t.owner[at];
-    let points = t.ys[at] ^ t.dls[at] ^ t.drs[at] ^ t.hs[at];
-    let lines = t.words[at] ^ t.later[at] ^ t.bends[at];
-    links ^ points ^ lines
+    let p = d.table.points[at];
+    let l = d.table.lines[at];
+    let port = match l.bend {
+        Bend::NoBend => 0,
+        Bend::Left(j) | Bend::Right(j) | Bend::Middle(j) => j,
+    };
+    let links = p.next ^ p.gap ^ p.owner;
+    let point = p.y ^ p.dl ^ p.dr ^ p.h;
+    links ^ point ^ l.later ^ l.earlier ^ port
 }
 
 // Makes the calls `rounds` times; gives the number of points placed, or 0 if a round's drawing differs from the one before.
-// Of each array one number is compared: the compiler can't know which, so it can't leave out the work of storing them all.
+// Of the points and of the lines one is compared: the compiler can't know which, so it can't leave out the work of storing them all.
 fn repeat(n: usize, rounds: usize, calls: &[u16]) -> usize {
     let mut answers = [0u16; 2048];
     let at = rounds % 1024;
@@ -42,7 +46,7 @@ fn repeat(n: usize, rounds: usize, calls: &[u16]) -> usize {
         let Ok(drawn) = calls::run(Style::OneBend, n, calls, &mut answers) else {
             return 0;
         };
-        let mixed = mix(drawn, at) ^ answers[at];
+        let mixed = mix(&drawn, at) ^ answers[at];
         if 0 < round && mixed != seen {
             return 0;
         }
