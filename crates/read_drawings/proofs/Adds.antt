@@ -1,12 +1,7 @@
 -- A group that was taken and added: the answer is that of the rules, at the group's place, and the lines behind the group are next.
-use Prim.Native.Nat.{ℕ, suc, ◌+◌, ◌-◌, ◌*◌, ◌≤◌}
-use mathlib.Core.Path.{◌≡◌, ap, ap₂, sym, ◌∙◌}
-use mathlib.Core.List.{List, map}
-use native.Mathlib.Omega.{arith}
-use lib.ListN.{length, take}
-use lib.Seq.{length-take-le}
+use Rattle.std.proofs.Common.{ap, ap₂, sym, ◌∙◌, arith, length-take-le}
 use Rattle.rules.specs.declared.Style.{Style}
-use Rattle.std.specs.Prelude.{Ok, Err}
+use Rattle.std.specs.Prelude.{ℕ, suc, ◌+◌, ◌-◌, ◌*◌, ◌≤◌, ◌≡◌, List, map, Ok, Err, length, take}
 use Rattle.rules.specs.declared.Refused.{Refused}
 use Rattle.rules.specs.Refusals.{refused, refusal_at, placed}
 use Rattle.rules.specs.Results.{refusing, all_passed}
