@@ -17,7 +17,7 @@ use store_links::Spot;
 use store_tables::{Drawing, Point, Table};
 
 // The point of entry i, as the table keeps it.
-fn point_of(e: &[u16], i: usize, table: &Table) -> Point
+fn end_point(e: &[u16], i: usize, table: &Table) -> Point
     requires { (i < length e.now) × Within 1024 e.now }
     ensures { result ≡ point_at (arrays_in table.now) (entry_point e.now i) }
 {
@@ -29,8 +29,8 @@ fn spot_over(style: Style, e: &[u16], table: &Table) -> Spot
     requires { Runs e.now (arrays_in table.now) }
     ensures { result ≡ spot_for style (arrays_in table.now) e.now }
 {
-    let wl = point_of(e, 0, table);
-    let wr = point_of(e, e.len() - 1, table);
+    let wl = end_point(e, 0, table);
+    let wr = end_point(e, e.len() - 1, table);
     let far = store_placing::way_over(e, table);
     store_placing::spot_of(style, far, wl.y, wr.y, wl.dr, wr.dl, e.len())
 }
@@ -55,10 +55,7 @@ pub fn add(d: &mut Drawing, e: &[u16]) -> Answer<()>
     store_judging::judge(e, d)?;
     let style = d.counts.style;
     let p = spot_over(style, e, &d.table);
-    let ports = ports_over(style, e, &d.table, p);
-    let Some(from) = ports else {
-        return Err(Refusal::NoReach.at(0));
-    };
+    let from = ports_over(style, e, &d.table, p).ok_or(Refusal::NoReach.at(0))?;
     store_calls::store(d, e, p, from);
     d.counts = store_links::counts_with(d.counts, e.len());
     Ok(())

@@ -15,6 +15,7 @@ use styles::bent;
 use words::point_of;
 
 // A line for each entry, from the new point, behind the lines that are there.
+// By index: i goes into the line's place and its bend.
 #[tactic(auto, unfolding(store_links::specs::Storing::filled))]
 fn push_lines(e: &[u16], lines: &mut [Line; LINES], c: Counts, rights: u16, lefts: u16, from: usize)
     requires { Pushable e.now c }

@@ -34,6 +34,7 @@ pub fn judge_entry(e: u16, d: &Drawing, i: usize) -> Answer<()>
 }
 
 // 13, 6 and 7, entry by entry.
+// By index: the place i goes into the refusal.
 fn judge_entries(e: &[u16], d: &Drawing) -> Answer<()>
     requires { d.now.counts.k ≤ 1024 }
     ensures { result ≡ answer (entries_pass (arrays_in d.now.table).owner d.now.counts.k 0 e.now) }

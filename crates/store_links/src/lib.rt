@@ -39,14 +39,11 @@ pub fn counts_with(c: Counts, entries: usize) -> Counts
     requires { (c.k < 1024) × (c.m ≤ 1024) × (c.lines ≤ 3072) × (entries ≤ c.m) }
     ensures { result ≡ with_counts c entries }
 {
-    let style = c.style;
     Counts {
-        style,
-        n: c.n,
-        s: c.s,
         k: c.k + 1,
         m: c.m + 3 - entries,
         lines: c.lines + entries,
+        ..c
     }
 }
 

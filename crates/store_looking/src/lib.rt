@@ -19,7 +19,7 @@ use rules::{Answer, Line, Place, Refusal, Style};
 use store_settling::{View, bend_of};
 use store_tables::{Drawing, POINTS};
 
-// The x of every placed point.
+// The x of every placed point. A fixed array, since the project has no heap.
 pub fn settled(d: &Drawing) -> [u16; POINTS]
     requires { Settleable no_points (arrays_in d.now.table) d.now.counts.k }
     ensures { Settled result (arrays_in d.now.table) d.now.counts.k }
@@ -75,6 +75,7 @@ fn is_cut_to(l: Line, p: usize) -> bool
 }
 
 // The first cut line that ends at p.
+// Not by position, of which the library has no law by recursion.
 #[tactic(auto, unfolding(crate::specs::Cuts::cut_at))]
 fn first_cut(d: &Drawing, p: usize) -> Option<usize>
     requires { d.now.counts.lines ≤ 3072 }

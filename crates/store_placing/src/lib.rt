@@ -8,7 +8,7 @@ ghost use Rattle.rules.specs.Adding.{reaches};
 ghost use Rattle.store_links.specs.Placing.{entry_point, way, spot_of, change_from, all_reach_from, inner_count};
 ghost use Rattle.store_links.specs.Runs.{Within};
 ghost use Rattle.store_tables.specs.Tables.{arrays_in};
-ghost use Rattle.store_placing.specs.Small.{Small};
+ghost use Rattle.store_placing.specs.Small.{Small, Tested};
 ghost use Rattle.store_placing.specs.Ports.{ports_for};
 
 use rules::Style;
@@ -26,6 +26,7 @@ fn point_at(e: &[u16], i: usize) -> usize
 }
 
 // How far the last entry's point lies to the right of the first entry's.
+// By index, as its definition.
 pub fn way_over(e: &[u16], table: &Table) -> usize
     requires { (0 < length e.now) × (length e.now ≤ 1024) × Within 1024 e.now }
     ensures { result ≡ way (arrays_in table.now).gap e.now (length e.now - 1) }
@@ -95,7 +96,7 @@ fn either_reaches(p: Spot, port: usize, a: usize, y: usize) -> bool
 // Step 5: the index of the inner point from which ports change to i + 1, the first that port i doesn't reach.
 // It stays a labelled loop that breaks with the index: document 01 asks for that form.
 fn change_at(p: Spot, table: &Table, e: &[u16]) -> usize
-    requires { Small p × (1 < length e.now) × (length e.now ≤ 1024) × Within 1024 e.now }
+    requires { Tested p e.now }
     ensures { result ≡ change_from p (arrays_in table.now).gap (arrays_in table.now).ys e.now 1 (inner_count e.now) }
 {
     let last = e.len() - 1;
@@ -119,7 +120,7 @@ fn change_at(p: Spot, table: &Table, e: &[u16]) -> usize
 
 // 25 is false: every inner point i reaches port i or port i + 1.
 fn all_reach(p: Spot, table: &Table, e: &[u16]) -> bool
-    requires { Small p × (1 < length e.now) × (length e.now ≤ 1024) × Within 1024 e.now }
+    requires { Tested p e.now }
     ensures { result ≡ all_reach_from p (arrays_in table.now).gap (arrays_in table.now).ys e.now 1 (inner_count e.now) }
 {
     let inner = e.len() - 2;
@@ -138,7 +139,7 @@ fn all_reach(p: Spot, table: &Table, e: &[u16]) -> bool
 // Step 5: which middle ports the inner points take: port i + 1 from this index on, and port i before it; or none, which is 25.
 // Where port i reaches every one, 25 isn't looked for.
 pub fn ports_of(p: Spot, table: &Table, e: &[u16]) -> Option<usize>
-    requires { Small p × (1 < length e.now) × (length e.now ≤ 1024) × Within 1024 e.now }
+    requires { Tested p e.now }
     ensures { result ≡ ports_for (change_from p (arrays_in table.now).gap (arrays_in table.now).ys e.now 1 (inner_count e.now)) (all_reach_from p (arrays_in table.now).gap (arrays_in table.now).ys e.now 1 (inner_count e.now)) }
 {
     let last = e.len() - 1;

@@ -19,6 +19,7 @@ use styles::{bent, second_x, taken, third_x, third_y};
 use words::point_of;
 
 // The inner points of the run get the new point v as their owner, and their gaps count from it.
+// By index, as its definition.
 pub fn cover(e: &[u16], table: &mut Table, p: Spot, v: u16)
     requires { Coverable e.now (arrays_in table.old).gap p }
     ensures { arrays_in table.new ≡ covered (arrays_in table.old) e.now p v (inner_count e.now) }
@@ -73,6 +74,7 @@ pub fn link(table: &mut Table, style: Style, v: usize, wl: usize, wr: usize, p: 
 }
 
 // The first three of a list.
+// Three stores, as the definition has them: of a copy each would have to be read back.
 fn three<T: Copy>(list: &mut [T], a: T, b: T, c: T)
     requires { 2 < length list.old }
     ensures { list.new ≡ set (set (set list.old 0 a) 1 b) 2 c }

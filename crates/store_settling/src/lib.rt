@@ -2,7 +2,7 @@
 // For the crates above: it asks for a stored drawing, which they have.
 #![tactic(auto)]
 
-ghost use Rattle.std.specs.Prelude.{◌≡◌, ◌<◌, ◌≤◌, length, get_or};
+ghost use Rattle.std.specs.Prelude.{◌≡◌, ◌<◌, ◌≤◌, get_or};
 ghost use Rattle.store_tables.specs.Tables.{arrays_in};
 ghost use Rattle.store_settling.specs.Walk.{first_pass, Walks};
 ghost use Rattle.store_settling.specs.Hang.{hang_by, HangsBy, hung, Hangs};
@@ -16,7 +16,7 @@ use store_tables::{Drawing, POINTS, Table};
 
 // The first pass: boundary points along the links from point 1, which lies at 0.
 fn walk(x: &mut [u16; POINTS], table: &Table, k: usize)
-    requires { (length x.old ≡ 1024) × Walks (arrays_in table.now).next (arrays_in table.now).gap k (get_or (arrays_in table.now).next 0 0) 0 }
+    requires { Walks (arrays_in table.now).next (arrays_in table.now).gap k (get_or (arrays_in table.now).next 0 0) 0 }
     ensures { x.new ≡ first_pass (arrays_in table.now).next (arrays_in table.now).gap k x.old }
 {
     x[0] = 0;
@@ -35,7 +35,7 @@ fn walk(x: &mut [u16; POINTS], table: &Table, k: usize)
 
 // One covered point, at index p: its x from its owner's. Of a boundary point nothing changes.
 fn hang_one(x: &mut [u16; POINTS], table: &Table, p: usize)
-    requires { (length x.old ≡ 1024) × (p < 1024) × HangsBy (get_or (arrays_in table.now).owner p 0) (arrays_in table.now).gap p x.old }
+    requires { (p < 1024) × HangsBy (get_or (arrays_in table.now).owner p 0) (arrays_in table.now).gap p x.old }
     ensures { x.new ≡ hang_by (get_or (arrays_in table.now).owner p 0) (arrays_in table.now).gap p x.old }
 {
     let point = table.point(p + 1);
@@ -49,7 +49,7 @@ fn hang_one(x: &mut [u16; POINTS], table: &Table, p: usize)
 
 // The second pass: covered points from point k down to point 1, each after its owner.
 fn hang(x: &mut [u16; POINTS], table: &Table, k: usize)
-    requires { (length x.old ≡ 1024) × (k ≤ 1024) × Hangs (arrays_in table.now).gap (arrays_in table.now).owner k x.old }
+    requires { (k ≤ 1024) × Hangs (arrays_in table.now).gap (arrays_in table.now).owner k x.old }
     ensures { x.new ≡ hung (arrays_in table.now).gap (arrays_in table.now).owner k x.old }
 {
     for p in (0..k).rev() {
@@ -68,6 +68,7 @@ pub fn settle(x: &mut [u16; POINTS], d: &Drawing)
 }
 
 // A drawing with the x of every placed point: what look-ups, moves and writers read.
+// That it is stored and settled stands in contracts: bend_of and the writers ask for less, and a type may not ask more. x isn't a field of a point: adding moves points without telling where to.
 #[derive(Clone, Copy)]
 pub struct View<'a> {
     pub drawing: &'a Drawing,

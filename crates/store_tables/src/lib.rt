@@ -14,6 +14,7 @@ pub const POINTS: usize = MOST_POINTS;
 pub const LINES: usize = 3 * POINTS;
 
 // What the table keeps of a point. Crate `store_links` says what each number is.
+// Points name each other by number, 0 where there is none, as the rules' owners do; an Option would be told from that in every law, and a blank table would not be all zeros.
 #[derive(Clone, Copy, Debug, PartialEq, Eq)]
 pub struct Point {
     pub next: u16,
@@ -26,6 +27,7 @@ pub struct Point {
 }
 
 // The points and the lines of a drawing.
+// Arrays of full length, of which the counts say how much is in use: the project has no heap.
 #[derive(Clone, Copy)]
 pub struct Table {
     pub points: [Point; POINTS],
@@ -81,7 +83,8 @@ impl Table {
     }
 }
 
-// A drawing: boundary links and gaps in one table. It is lent, so that no call has two on its stack (fixed memory).
+// A drawing: boundary links and gaps in one table. It is lent, so that no call through C has two on its stack (fixed memory).
+// That it stores something stands in contracts: a blank one is a Drawing too, and one whose file was refused.
 #[derive(Clone, Copy)]
 pub struct Drawing {
     pub counts: Counts,
