@@ -114,7 +114,6 @@ module _ {file : List ℕ} {net : Net} (t : TakenIn file net) where
       puttable {order = o} {list} r q =
           subst (λ b. Puttable o list b ln ent s) (sym same)
           (record {
-            start = a.s_in_lem;
             fits = rw vs-length a.fitting;
             small = λ i il. omega (arith, order.are_vertices i (omega (arith, il, vs-length)), net.kept.byte);
             order-room = omega (arith, order-room);

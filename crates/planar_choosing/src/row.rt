@@ -6,7 +6,8 @@ ghost use Rattle.planar_choosing.specs.Rows.{Positions, Apart, found_index, insi
 use planar_rules::VERTEX_ROOM;
 use std::marker::Model;
 
-// stands[v] is one more than v's index, or 0: a byte has room for both.
+// Fixed arrays, since the project has no heap. stands[v] is one more than v's index, or 0 for none: with an Option for each, a
+// row, which is handed on by value, would be 256 bytes longer, and `index_of` and `is_inside` no shorter.
 #[derive(Drop)]
 pub struct Row {
     vertices: [u8; VERTEX_ROOM],

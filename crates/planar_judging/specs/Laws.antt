@@ -1,8 +1,10 @@
 -- Laws of the tests, one step at a time.
-use Rattle.std.specs.Prelude.{ℕ, ◌+◌, ◌<◌, ◌≤◌, ◌≡◌, ◌≢◌, Bool, true, false, not, ◌&&◌, ◌||◌, List, length, get_or, set, eqb, if◌then◌else◌}
+use Rattle.std.specs.Prelude.{ℕ, ◌+◌, ◌<◌, ◌≤◌, ◌≡◌, ◌≢◌, Bool, true, false, not, ◌&&◌, ◌||◌, List, length, get_or, set, eqb, if◌then◌else◌, Option, Some, None, zero, suc, replicate}
+use Rattle.std.specs.Option.{option_eq}
 use Rattle.std.proofs.Math.Path.{refl, ap}
 use Rattle.std.proofs.Common.{sym, ◌∙◌, inl, inr, arith, add-one, length-set, get_or-set_same, get_or-set_other, eq-eqb, ne_eqb, eqb-true}
 use Rattle.std.proofs.Math.Decide.{ℕ_discrete, dec_le}
+use Rattle.std.proofs.lemmas.Option.{none-some}
 use Rattle.rules.specs.Bools.{both}
 use Rattle.planar_rules.specs.PlanarCode.{Flat, all, after, back, not_self?, not_twice?, in_both?, merge, labels, joined?, counted?, side, faces?, taken?}
 use Rattle.planar_reading.specs.Arrays.{Kept}
@@ -63,29 +65,43 @@ between-own {f} l j i k ji ik kd e =
     let hi : i < f.off (f.own j + 1) = omega (arith, l.upto k kd, ap (λ v. f.off (v + 1)) e) in
     (l.within (f.own j) i (l.own_in j (omega arith)) lo hi).1
 
--- after i places, a mark is one more than the vertex whose list named its index last
-pub record Marks (f : Flat) (i : ℕ) (marks : List ℕ) : Type 0 where
+-- after i places, a mark is the vertex whose list named its index last
+pub record Marks (f : Flat) (i : ℕ) (marks : List (Option ℕ)) : Type 0 where
   pub long : length marks ≡ 256
   -- whatever is marked was named
-  pub named : (u v : ℕ) → get_or marks u 0 ≡ v + 1 → (j : ℕ) × (j < i) × (f.own j ≡ v) × (f.nbr j ≡ u)
+  pub named : (u v : ℕ) → get_or marks u None ≡ Some v → (j : ℕ) × (j < i) × (f.own j ≡ v) × (f.nbr j ≡ u)
   -- what was named by a list that goes on is marked
-  pub shown : (j k : ℕ) → j < i → i ≤ k → k < f.D → f.own k ≡ f.own j → get_or marks (f.nbr j) 0 ≡ f.own j + 1
+  pub shown : (j k : ℕ) → j < i → i ≤ k → k < f.D → f.own k ≡ f.own j → get_or marks (f.nbr j) None ≡ Some (f.own j)
   -- and no list has named one twice
   pub once : (j k : ℕ) → j < k → k < i → f.own j ≡ f.own k → f.nbr j ≡ f.nbr k → ⊥
 
+-- an array of none has none at every index
+pub unmarked : (n u : ℕ) → get_or {A = Option ℕ} (replicate n None) u None ≡ None
+unmarked zero u = refl
+unmarked (suc n) zero = refl
+unmarked (suc n) (suc u) = unmarked n u
+
+-- a mark that is v's, and one that is not
+pub mark_is : (o : Option ℕ) (v : ℕ) → option_eq eqb o (Some v) ≡ true → o ≡ Some v
+mark_is None v e = clash e refl
+mark_is (Some u) v e = ap Some (eqb-true u v e)
+
+pub mark_isnt : (o : Option ℕ) (v : ℕ) → option_eq eqb o (Some v) ≡ false → o ≡ Some v → ⊥
+mark_isnt o v e q = clash (ap (λ o. option_eq eqb o (Some v)) q ∙ eq-eqb v v refl) e
+
 -- nothing is named yet
-pub marks_none : (f : Flat) (marks : List ℕ) → length marks ≡ 256 → ((u : ℕ) → get_or marks u 0 ≡ 0) → Marks f 0 marks
+pub marks_none : (f : Flat) (marks : List (Option ℕ)) → length marks ≡ 256 → ((u : ℕ) → get_or marks u None ≡ None) → Marks f 0 marks
 marks_none f marks l z =
     record {
       long = l;
-      named = λ u v e. absurd (omega (arith, z u));
+      named = λ u v e. absurd (none-some v (sym (z u) ∙ e));
       shown = λ j k p a b e. absurd (omega arith);
       once = λ j k a b p q. omega arith;
     }
 
-module _ {f : Flat} {i : ℕ} {marks : List ℕ} (l : Listed f) (d : i < f.D) (m : Marks f i marks) where
+module _ {f : Flat} {i : ℕ} {marks : List (Option ℕ)} (l : Listed f) (d : i < f.D) (m : Marks f i marks) where
   -- the list has named the next place's vertex
-  pub marks_stop : get_or marks (f.nbr i) 0 ≡ f.own i + 1 → false ≡ not_twice? f
+  pub marks_stop : get_or marks (f.nbr i) None ≡ Some (f.own i) → false ≡ not_twice? f
   marks_stop e =
       let w = m.named (f.nbr i) (f.own i) e in
       elim (bool (not_twice? f)) [
@@ -94,14 +110,14 @@ module _ {f : Flat} {i : ℕ} {marks : List ℕ} (l : Listed f) (d : i < f.D) (m
       ]
 
   -- it has not, and is marked as its owner
-  pub marks_more : f.nbr i < 256 → (get_or marks (f.nbr i) 0 ≡ f.own i + 1 → ⊥) → Marks f (i + 1) (set marks (f.nbr i) (f.own i + 1))
+  pub marks_more : f.nbr i < 256 → (get_or marks (f.nbr i) None ≡ Some (f.own i) → ⊥) → Marks f (i + 1) (set marks (f.nbr i) (Some (f.own i)))
   marks_more small fresh =
       record {
-        long = length-set marks (f.nbr i) (f.own i + 1) ∙ m.long;
+        long = length-set marks (f.nbr i) (Some (f.own i)) ∙ m.long;
         named = λ u v e. elim (ℕ_discrete u (f.nbr i)) [
           | yes q ↦
-              let z : f.own i + 1 ≡ v + 1 = sym here ∙ ap (λ u. get_or new u 0) (sym q) ∙ e in
-              (i, omega arith, omega arith, sym q)
+              let z : Some (f.own i) ≡ Some v = sym here ∙ ap (λ u. get_or new u None) (sym q) ∙ e in
+              (i, omega arith, cc, sym q)
           | no ne ↦
               let w = m.named u v (sym (other u ne) ∙ e) in
               (w.0, omega (arith, w.1), w.2, w.3)
@@ -109,7 +125,7 @@ module _ {f : Flat} {i : ℕ} {marks : List ℕ} (l : Listed f) (d : i < f.D) (m
         shown = λ j k ji ik kd e. elim (ℕ_discrete (f.nbr j) (f.nbr i)) [
           | yes q ↦
               let o = between-own l j i k (omega arith) (omega arith) kd e in
-              ap (λ u. get_or new u 0) q ∙ here ∙ ap (λ v. v + 1) o
+              ap (λ u. get_or new u None) q ∙ here ∙ ap Some o
           | no ne ↦
               let ji' : j ≢ i = λ z. ne (ap f.nbr z) in
               other (f.nbr j) ne ∙ m.shown j k (omega (arith, ji')) (omega arith) kd e
@@ -118,21 +134,21 @@ module _ {f : Flat} {i : ℕ} {marks : List ℕ} (l : Listed f) (d : i < f.D) (m
           | no ne ↦ m.once j k jk (omega (arith, ne)) p q
           | yes z ↦
               let o : f.own j ≡ f.own i = p ∙ ap f.own z in
-              fresh (ap (λ u. get_or marks u 0) (sym (q ∙ ap f.nbr z)) ∙ m.shown j i (omega arith) (omega arith) d (sym o) ∙ ap (λ v. v + 1) o)
+              fresh (ap (λ u. get_or marks u None) (sym (q ∙ ap f.nbr z)) ∙ m.shown j i (omega arith) (omega arith) d (sym o) ∙ ap Some o)
         ];
       }
     where
-      new : List ℕ
-      new = set marks (f.nbr i) (f.own i + 1)
+      new : List (Option ℕ)
+      new = set marks (f.nbr i) (Some (f.own i))
 
-      here : get_or new (f.nbr i) 0 ≡ f.own i + 1
-      here = get_or-set_same marks (f.nbr i) (f.own i + 1) 0 (omega (arith, m.long))
+      here : get_or new (f.nbr i) None ≡ Some (f.own i)
+      here = get_or-set_same marks (f.nbr i) (Some (f.own i)) None (omega (arith, m.long))
 
-      other : (u : ℕ) → u ≢ f.nbr i → get_or new u 0 ≡ get_or marks u 0
-      other u ne = get_or-set_other marks (f.nbr i) u (f.own i + 1) 0 ne
+      other : (u : ℕ) → u ≢ f.nbr i → get_or new u None ≡ get_or marks u None
+      other u ne = get_or-set_other marks (f.nbr i) u (Some (f.own i)) None ne
 
 -- there is no other place
-pub marks_all : {f : Flat} {i : ℕ} {marks : List ℕ} → Marks f i marks → f.D ≤ i → true ≡ not_twice? f
+pub marks_all : {f : Flat} {i : ℕ} {marks : List (Option ℕ)} → Marks f i marks → f.D ≤ i → true ≡ not_twice? f
 unfolding not_twice?
 marks_all {f} {i} m l =
     sym (true_all _ f.D (λ d dl. true_all _ f.D (λ e el. not_or (same? f d e) _ (λ s.

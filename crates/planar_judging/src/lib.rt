@@ -21,20 +21,19 @@ fn not_self(net: &Net) -> bool
     true
 }
 
-// Whether none names "one vertex twice": marks[u] is v + 1 where v's list named u last. The lists stand one behind another,
-// so one pass tells.
+// Whether none names "one vertex twice": marks[u] is whose list named u last. The lists stand one behind another, so one pass
+// tells.
 fn not_twice(net: &Net) -> bool
     ensures { result ≡ not_twice? (net_in net.now) }
 {
-    let mut marks = [0; VERTEX_ROOM];
+    let mut marks = [None; VERTEX_ROOM];
     for i in 0..net.places() {
         let v = net.owner(i);
         let u = usize::from(net.neighbour(i));
-        let mark = v + 1;
-        if marks[u] == mark {
+        if marks[u] == Some(v) {
             return false;
         }
-        marks[u] = mark;
+        marks[u] = Some(v);
     }
     true
 }
@@ -46,10 +45,8 @@ fn in_both(net: &Net) -> Option<[u16; PLACE_ROOM]>
 {
     let mut backs = [0; PLACE_ROOM];
     for i in 0..net.places() {
-        match net.place_of(net.neighbour(i), net.owner(i)) {
-            Some(e) => backs[i] = e as u16,
-            None => return None,
-        }
+        let e = net.place_of(net.neighbour(i), net.owner(i))?;
+        backs[i] = e as u16;
     }
     Some(backs)
 }
@@ -79,24 +76,25 @@ fn faces(net: &Net, backs: &[u16; PLACE_ROOM]) -> bool
 }
 
 // Gives label b to all that have label a.
-fn relabel(labels: &mut [u8; VERTEX_ROOM], n: u8, a: u8, b: u8)
-    ensures { Relabelled n a b labels.old labels.new }
+fn relabel(labels: &mut [u8], a: u8, b: u8)
+    ensures { Relabelled (length labels.old) a b labels.old labels.new }
 {
-    for x in 0..usize::from(n) {
-        if labels[x] == a {
-            labels[x] = b;
+    for label in labels.iter_mut() {
+        if *label == a {
+            *label = b;
         }
     }
 }
 
 // Gives all that have v's label that of u, for a line from v to u.
-fn join(labels: &mut [u8; VERTEX_ROOM], n: u8, v: u8, u: u8)
-    ensures { Merged n v u labels.old labels.new }
+fn join(labels: &mut [u8], v: u8, u: u8)
+    requires { (v < length labels.old) × (u < length labels.old) }
+    ensures { Merged (length labels.old) v u labels.old labels.new }
 {
     let a = labels[usize::from(v)];
     let b = labels[usize::from(u)];
     if a != b {
-        relabel(labels, n, a, b);
+        relabel(labels, a, b);
     }
 }
 
@@ -111,14 +109,12 @@ fn own_labels() -> [u8; VERTEX_ROOM]
     labels
 }
 
-// Whether all n vertices have one label.
-fn one_label(labels: &[u8; VERTEX_ROOM], n: u8) -> bool
-    ensures { result ≡ all (λ x. eqb (get_or labels.now x 0) (get_or labels.now 0 0)) n }
+// Whether all have one label.
+fn one_label(labels: &[u8]) -> bool
+    ensures { result ≡ all (λ x. eqb (get_or labels.now x 0) (get_or labels.now 0 0)) (length labels.now) }
 {
-    let a = labels[0];
-    for x in 0..usize::from(n) {
-        let b = labels[x];
-        if b != a {
+    for &b in labels {
+        if b != labels[0] {
             return false;
         }
     }
@@ -129,11 +125,12 @@ fn one_label(labels: &[u8; VERTEX_ROOM], n: u8) -> bool
 fn joined(net: &Net) -> bool
     ensures { result ≡ joined? (net_in net.now) }
 {
-    let mut labels = own_labels();
+    let mut room = own_labels();
+    let labels = &mut room[..usize::from(net.n())];
     for i in 0..net.places() {
-        join(&mut labels, net.n(), net.owner(i), net.neighbour(i));
+        join(labels, net.owner(i), net.neighbour(i));
     }
-    one_label(&labels, net.n())
+    one_label(labels)
 }
 
 // Whether no list names its own vertex or one vertex twice, and all is connected.

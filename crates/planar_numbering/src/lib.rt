@@ -19,6 +19,8 @@ pub use points::Points;
 
 // Puts the neighbours from place d0 on, clockwise, up to left, into entries from s down: they stand there from left to right.
 // Returns where they begin. It walks round a list until left comes, so the loop has no index for a `for`.
+// No method of `Points`: it would have to promise that vertices and counts stay, and its callers count and lend what lies
+// between s and the place that is returned.
 fn gather_run(net: &Net, d0: usize, left: u8, entries: &mut [u8; ENTRY_ROOM], s: usize) -> usize
     requires { Gatherable (net_in net.now) left d0 s × (length entries.old ≡ 768) }
     ensures { Gathered (gather (net_in net.now) left (net_in net.now).D d0 []) s entries.old entries.new result }

@@ -69,7 +69,8 @@ fn count_places(lists: &[u8]) -> usize
     places
 }
 
-// Which vertex each place names.
+// Which vertex each place names. What this and the next two functions ask of the lists stands in each: a struct of n and the
+// lists would be made once, to be taken apart three times.
 fn neighbours_of(lists: &[u8]) -> [u8; PLACE_ROOM]
     requires { length (neighbours lists.now) ≤ 1536 }
     ensures { Holds (neighbours lists.now) result }

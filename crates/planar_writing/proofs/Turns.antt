@@ -1,7 +1,7 @@
 -- One turn of each loop, over plain lists.
 use Rattle.std.specs.Prelude.{ℕ, zero, suc, ◌+◌, ◌-◌, ◌*◌, ◌<◌, ◌≤◌, ◌≡◌, refl, List, [], ◌∷◌, ◌++◌, map, length, get_or, take, drop, set}
-use Rattle.std.proofs.Common.{ap, sym, ◌∙◌, subst, arith, zero-add, add-one, length-append, length-drop, drop-drop, length-take-le}
 use Rattle.std.proofs.lemmas.List.{length-map}
+use Rattle.std.proofs.Common.{get_or-take, ap, sym, ◌∙◌, subst, arith, zero-add, add-one, length-append, length-drop, drop-drop, length-take-le}
 use Rattle.words.specs.Writing.{Pasted, Stored, stored_next, Ahead, ahead_all, ahead_as, ahead-part, ahead_none}
 use Rattle.planar_numbering.specs.Points.{Fitting}
 use Rattle.planar_rules.specs.PlanarCode.{point_of}
@@ -17,6 +17,10 @@ pub length-entries : (ent : List ℕ) (from count : ℕ) → from + count ≤ le
 length-entries ent from count h = length-take-le count (drop from ent) (omega (arith, length-drop from ent))
 
 -- ---- the records of the points
+
+-- a turn over the first n of ln is that of a point, with its number of entries
+pub turn_of : {n m i x : ℕ} (ln : List ℕ) → n ≡ m → n ≤ length ln → i < length (take n ln) → x ≡ get_or (take n ln) i 0 → (i < m) × (x ≡ get_or ln i 0)
+turn_of {n} {m} {i} ln e l t q = let long = length-take-le n ln l in (omega arith, q ∙ get_or-take n ln i 0 (omega arith))
 
 -- i points are written, the others are ahead; their entries stand in ent from `from` on
 pub record Pointing (out₀ : List ℕ) (at n : ℕ) (ln ent : List ℕ) (s : ℕ) (num out : List ℕ) (place from i : ℕ) : Type 0 where

@@ -23,7 +23,6 @@ order_words b ln l = order_mark ∷ length b ∷ (points_words b ln 0 (length b)
 
 -- the arrays of the numbered points, and room for both outputs
 pub record Puttable (order list b ln ent : List ℕ) (s : ℕ) : Type 0 where
-  pub start : s ≤ 768
   pub fits : Fitting ln 0 (length b) (drop s ent)
   pub small : (i : ℕ) → i < length b → get_or b i 0 < 255
   pub order-room : 2 * length (order_words b ln (drop s ent)) ≤ length order

@@ -43,13 +43,13 @@ fn put_point(page: &mut Page<'_>, entries: &[u8], by_point: &Row)
 
 // Puts the records of all points there.
 fn put_points(page: &mut Page<'_>, points: &Points, by_point: &Row)
-    requires entries { (points.now.from ≤ 768) × Fitting points.now.counts 0 (length by_point.now) (drop points.now.from points.now.entries) }
+    requires entries { Fitting points.now.counts 0 (length by_point.now) (drop points.now.from points.now.entries) }
     requires room { HasRoom page.old (2 * length (points_words by_point.now points.now.counts 0 (length by_point.now) (drop points.now.from points.now.entries))) }
     ensures { Grown page.old (bytes_of (points_words by_point.now points.now.counts 0 (length by_point.now) (drop points.now.from points.now.entries))) page.new }
 {
     let mut from = points.from;
-    for i in 0..by_point.len() {
-        let end = from + usize::from(points.counts[i]);
+    for &count in &points.counts[..by_point.len()] {
+        let end = from + usize::from(count);
         put_point(page, &points.entries[from..end], by_point);
         from = end;
     }
@@ -57,7 +57,7 @@ fn put_points(page: &mut Page<'_>, points: &Points, by_point: &Row)
 
 // Writes the order file.
 fn put_order(out: &mut [u8], points: &Points, by_point: &Row)
-    requires entries { (points.now.from ≤ 768) × Fitting points.now.counts 0 (length by_point.now) (drop points.now.from points.now.entries) }
+    requires entries { Fitting points.now.counts 0 (length by_point.now) (drop points.now.from points.now.entries) }
     requires room { 2 * length (order_words by_point.now points.now.counts (drop points.now.from points.now.entries)) ≤ length out.old }
     ensures { Stored out.old 0 (bytes_of (order_words by_point.now points.now.counts (drop points.now.from points.now.entries))) out.new }
 {

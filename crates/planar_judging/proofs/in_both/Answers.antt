@@ -9,19 +9,19 @@ use Rattle.planar_judging.proofs.in_both.Goals as goal
 pub loop-i-init : goal.loop-i-init
 loop-i-init c = (passed_none, refl, λ k l. absurd (omega arith))
 
-pub returns-in-None-clause-none : goal.returns-in-None-clause-none
+pub returns-in_err-e-clause-none : goal.returns-in_err-e-clause-none
 unfolding in_both?
-returns-in-None-clause-none c =
+returns-in_err-e-clause-none c =
     let f = net_in c.args.net.now in
-    let out = le-ltb (back f c.loop-i.i) f.D (found_none f _ _ (sym (rw (c.neighbour.ensures, c.owner.ensures) at c.place_of.ensures) ∙ c.in-None.is)) in
-    sym (passed_stop c.loop-i.invariant.0 (omega arith) out)
+    let out = le-ltb (back f c.loop-i.i) f.D (found_none f _ _ (sym (rw (c.neighbour.ensures, c.owner.ensures) at c.place_of.ensures) ∙ c.in_err-e.was)) in
+    rw c.from_residual.ensures (sym (passed_stop c.loop-i.invariant.0 (omega arith) out))
 
 pub loop-i-preserved : goal.loop-i-preserved
 loop-i-preserved c =
     let l = c.loop-i in
     let net = c.args.net.now in
     let f = net_in net in
-    let found = found_some f _ _ (sym (rw (c.neighbour.ensures, c.owner.ensures) at c.place_of.ensures) ∙ c.in-Some.is) in (
+    let found = found_some f _ _ (sym (rw (c.neighbour.ensures, c.owner.ensures) at c.place_of.ensures) ∙ c.in_ok-e.was) in (
       passed_more l.invariant.0 (omega arith) (lt-ltb (back f l.i) f.D (omega (arith, found))),
       length-set l.backs l.i _ ∙ l.invariant.1,
       set_more l.backs (back f) l.i _ (omega (arith, l.invariant.1, net.kept.few)) l.invariant.2 (sym found.0),

@@ -1,7 +1,7 @@
--- `planar_judging::one_label` meets its contract: the first x vertices have vertex 1's label.
-use Rattle.std.specs.Prelude.{get_or, eqb}
+-- `planar_judging::one_label` meets its contract: the first labels are the first one.
+use Rattle.std.specs.Prelude.{length, get_or, eqb}
 use Rattle.planar_judging.specs.Laws.{Passed}
 use Rattle.planar_judging.proofs.one_label.Given as goal
 
-abbrev pub invariant-loop-x : goal.invariant-loop-x
-invariant-loop-x l = Passed (λ k. eqb (get_or l.labels k 0) (get_or l.labels 0 0)) l.n l.x
+abbrev pub invariant-loop-b : goal.invariant-loop-b
+invariant-loop-b l = Passed (λ k. eqb (get_or l.labels k 0) (get_or l.labels 0 0)) (length l.labels) l.b-index
