@@ -59,5 +59,5 @@ module _ {τ : Style} {f : List ℕ} (t : Passes τ f) (n s : ℕ) (isN : n ≡ 
       ap (λ (m : ℕ). judge_rest τ (m - 3) (lines_end τ m) (begun_in τ f) (lines_at τ f (line_count m - 3) (lines_from m + line_size τ * 3))) isN ∙ sym t.left
 
   -- the whole file
-  pub all_read : {d d' : Drawing} {r : Answer (Unit {0})} → d.counts ≡ open_counts τ n s → Is (begun_in τ f) d → AllGrouped τ f (head_size + place_size * n) (3 * n - 6) d d' r → LinesRead τ f d' r
-  all_read {d' = d'} {r = r} e h g = subst (λ (o : Result Plan). Gave o d' r) (left_over e) (g (begun_in τ f) h)
+  pub all_read : (d : Drawing) {d' : Drawing} {r : Answer (Unit {0})} → d.counts ≡ open_counts τ n s → Is (begun_in τ f) d → AllGrouped τ f (head_size + place_size * n) (3 * n - 6) d d' r → LinesRead τ f d' r
+  all_read d {d'} {r} e h g = subst (λ (o : Result Plan). Gave o d' r) (left_over e) (g (begun_in τ f) h)
