@@ -74,11 +74,7 @@ fn setting(c: Counts, t: Tool) -> Answer<Setting>
 
 // Move `number`, from 0, of the moves with this tool. Refusals in order: 12, 22, 23.
 // For `panel_c`, which is lent a drawing. It takes the time of one pass over the lines.
-pub fn look_move(
-    view: &View,
-    t: Tool,
-    number: usize,
-) -> Answer<Move>
+pub fn look_move(view: &View, t: Tool, number: usize) -> Answer<Move>
     requires { PlacedIn view.now.drawing.now view.now.x.now }
     ensures { (q : Plan) → Is q view.now.drawing.now → MoveSeen result (move_at q (whole_tool t) number) }
 {
@@ -126,11 +122,7 @@ fn put_moves(view: &View, by: Setting, lists: &mut MoveLists) -> usize
 
 // All moves with this tool in their order, written into the buffers. Refusals in order: 12, 22, then 24 for the kinds, then for the numbers.
 // For `panel_c`, which is lent a drawing.
-pub fn look_moves(
-    view: &View,
-    t: Tool,
-    lists: &mut MoveLists,
-) -> Result<usize, NotListed>
+pub fn look_moves(view: &View, t: Tool, lists: &mut MoveLists) -> Result<usize, NotListed>
     requires { PlacedIn view.now.drawing.now view.now.x.now }
     ensures { (q : Plan) → Is q view.now.drawing.now → ListsIn (given_moves q (whole_tool t)) lists.old lists.new result }
 {
