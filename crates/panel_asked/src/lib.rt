@@ -120,7 +120,7 @@ impl Question<u64, 1> for CutAsked {
 }
 
 // All moves, written into two buffers: how many there are.
-// The buffers become one MoveLists here and not before: where it is made above this function, it stays in memory, and all moves take 5% more instructions.
+// Two buffers and no MoveLists: one that is lent to this function would be made anew from its two fields here, for otherwise all moves take 5% more instructions.
 pub fn moves_from(
     drawn: Answer<()>,
     d: &Drawing,
