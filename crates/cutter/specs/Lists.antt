@@ -1,6 +1,6 @@
 -- All moves in two buffers: the answer and what the buffers hold afterwards.
 use Rattle.std.specs.Prelude.{ℕ, ◌+◌, ◌*◌, ◌<◌, ◌≤◌, ◌≡◌, refl, List, length, Float, Result as Outcome, Ok, Err}
-use Rattle.std.proofs.Common.{add-one, arith, ap, ◌∙◌, subst, lt-ltb, le-ltb}
+use Rattle.std.proofs.Common.{add-one, arith, ap, ◌∙◌, lt-ltb, le-ltb}
 use Rattle.rules.specs.declared.Refusal.{Refusal}
 use Rattle.rules.specs.declared.Refusal.TheVariants.{BadTool, Unfinished}
 use Rattle.rules.specs.declared.Refused.{Refused}
@@ -19,7 +19,8 @@ use Rattle.answers.specs.declared.NotListed.{NotListed}
 use Rattle.answers.specs.Told.{told_listed, listed_for}
 use Rattle.cutter_lines.specs.declared.Groove.{Groove}
 use Rattle.cutter_lines.specs.Grooves.{groove_moves, total}
-use Rattle.cutter_lists.specs.Listing.{kinds_of, numbers_of, Exactly, Puts, length-kinds, length-numbers, puts_both}
+use Rattle.cutter_lists.specs.declared.MoveLists.{MoveLists}
+use Rattle.cutter_lists.specs.Listing.{kinds_of, numbers_of, Exactly, Puts, PutsIn, length-kinds, length-numbers, in_both}
 use Rattle.cutter_grooves.specs.Grooves.{groove_of, groove_moves_lem}
 use Rattle.cutter.specs.Numbering.{moves_to, to_next, to_all, to_most}
 use Rattle.cutter.specs.Finding.{total_is}
@@ -34,6 +35,12 @@ pub record Lists (wanted : Result (List WholeMove)) (kinds : List ℕ) (numbers 
   pub kinds_after : kinds' ≡ filled kinds (room_for (length kinds) (length numbers) wanted >>= λ ms. good (kinds_of ms))
   pub numbers_after : numbers' ≡ filled numbers (room_for (length kinds) (length numbers) wanted >>= λ ms. good (numbers_of ms))
   pub exact : (ms : List WholeMove) → room_for (length kinds) (length numbers) wanted ≡ good ms → Exactly ms
+
+-- the same, where the two buffers are one struct, which holds the same two afterwards
+pub record ListsIn (wanted : Result (List WholeMove)) (before after : MoveLists) (r : Outcome ℕ NotListed) : Type 0 where
+  pub same-kinds : after.kinds.ghost_name ≡ before.kinds.ghost_name
+  pub same-numbers : after.numbers.ghost_name ≡ before.numbers.ghost_name
+  pub lists : Lists wanted before.kinds.now before.numbers.now after.kinds.now after.numbers.now r
 
 module _ (kinds : List ℕ) (numbers : List Float) where
   -- nothing was to be written
@@ -72,22 +79,27 @@ module _ (kinds : List ℕ) (numbers : List Float) where
             exact = λ ns e. let z : ms ≡ ns = cc (rw (s, t) at e) in rw (← z) p.exact;
           }
 
+-- two buffers that were lent as one struct
+pub lists_lent : {wanted : Result (List WholeMove)} {before after : MoveLists} {kinds' : List ℕ} {numbers' : List Float} {r : Outcome ℕ NotListed} → kinds' ≡ after.kinds.now → numbers' ≡ after.numbers.now → ListsIn wanted before after r →
+    Lists wanted before.kinds.now before.numbers.now kinds' numbers' r
+lists_lent k n l = rw (k, n) l.lists
+
 -- ---- the list, line by line
 
-module _ {q : Plan} {a : Arrays} {c : Counts} (h : Holds q a c) (t : WholeTool) (e : ℕ) {kinds kinds₁ : List ℕ} {numbers numbers₁ : List Float} {i : ℕ} (p : Puts kinds numbers 0 (moves_to q t e) kinds₁ numbers₁ i) where
+module _ {q : Plan} {a : Arrays} {c : Counts} (h : Holds q a c) (t : WholeTool) (e : ℕ) {before middle : MoveLists} {i : ℕ} (p : PutsIn before 0 (moves_to q t e) middle i) where
   -- all lines are there
-  pub lines_all : c.lines ≤ e → Puts kinds numbers 0 (all_moves q t) kinds₁ numbers₁ i
+  pub lines_all : c.lines ≤ e → PutsIn before 0 (all_moves q t) middle i
   lines_all b = rw (to_all q t e (omega (arith, h.stores.lines))) at p
 
   module _ (b : e < c.lines) (g : Groove) (is : g ≡ groove_of q (line_at q e)) where
     -- one line more
-    pub lines_more : {kinds₂ : List ℕ} {numbers₂ : List Float} {j : ℕ} → Puts kinds₁ numbers₁ i (groove_moves c.s t g) kinds₂ numbers₂ j → Puts kinds numbers 0 (moves_to q t (e + 1)) kinds₂ numbers₂ j
-    lines_more {kinds₂} {numbers₂} {j} r =
+    pub lines_more : {after : MoveLists} {j : ℕ} → PutsIn middle i (groove_moves c.s t g) after j → PutsIn before 0 (moves_to q t (e + 1)) after j
+    lines_more {after} {j} r =
         let same : groove_moves c.s t g ≡ moves_of q t (line_at q e) =
         ap (λ (v : Groove). groove_moves c.s t v) is ∙ ap (λ (n : ℕ). groove_moves n t (groove_of q (line_at q e))) h.stores.s ∙ groove_moves_lem q t (line_at q e) in
-        rw (add-one e, to_next q t e (omega (arith, h.stores.lines))) (puts_both p (subst (λ (ms : List WholeMove). Puts kinds₁ numbers₁ i ms kinds₂ numbers₂ j) same r))
+        rw (add-one e, to_next q t e (omega (arith, h.stores.lines))) (in_both p (rw same at r))
 
     -- there is room for it
     pub lines-room : 1 ≤ c.s → 1 ≤ t.pitch → i + total g ≤ length (all_moves q t)
     lines-room some wide =
-        omega (arith, p.behind, to_most q t e (omega (arith, h.stores.lines)), total_is q t e g is (omega (arith, h.stores.s)) wide)
+        omega (arith, p.puts.behind, to_most q t e (omega (arith, h.stores.lines)), total_is q t e g is (omega (arith, h.stores.s)) wide)

@@ -9,14 +9,15 @@ ghost use Rattle.store_laws.specs.Stored.{Is};
 ghost use Rattle.answers.specs.Told.{told_count};
 ghost use Rattle.tool.specs.Checking.{whole_tool, tool_of};
 ghost use Rattle.drawing.specs.Places.{PlacedIn, IsPlaced};
-ghost use Rattle.cutter_lists.specs.Listing.{Puts};
+ghost use Rattle.cutter_lists.specs.Listing.{PutsIn};
 ghost use Rattle.cutter.specs.Finding.{Finds, RoomIn};
 ghost use Rattle.cutter.specs.Setting.{Sets};
 ghost use Rattle.cutter.specs.Seen.{MoveSeen, move_count};
-ghost use Rattle.cutter.specs.Lists.{Lists};
+ghost use Rattle.cutter.specs.Lists.{Lists, ListsIn};
 
 use answers::NotListed;
 use cutter_lines::Setting;
+use cutter_lists::MoveLists;
 use drawing::Placed;
 use rules::{Answer, Refusal};
 use store_links::Counts;
@@ -105,43 +106,38 @@ pub fn move_count(v: Placed) -> Answer<usize>
 }
 
 // Puts all moves of the drawing into the buffers.
-fn put_moves(view: &View, by: Setting, kinds: &mut [u8], numbers: &mut [f32]) -> usize
+fn put_moves(view: &View, by: Setting, lists: &mut MoveLists) -> usize
     requires placed { PlacedIn view.now.drawing.now view.now.x.now }
     requires scaled { by.scale ≡ view.now.drawing.now.counts.s }
-    requires room { RoomIn view.now.drawing.now by.tool (length kinds.old) (length numbers.old) }
-    ensures { (q : Plan) → Is q view.now.drawing.now → Puts kinds.old numbers.old 0 (all_moves q (tool_of by.tool)) kinds.new numbers.new result }
+    requires room { RoomIn view.now.drawing.now by.tool (length lists.old.kinds.now) (length lists.old.numbers.now) }
+    ensures { (q : Plan) → Is q view.now.drawing.now → PutsIn lists.old 0 (all_moves q (tool_of by.tool)) lists.new result }
 {
     let mut count = 0;
     for line in 0..view.drawing.counts.lines {
         let groove = cutter_grooves::groove_of(view, line);
-        count = cutter_lists::put_groove(kinds, numbers, count, groove, by);
+        count = lists.put_groove(count, groove, by);
     }
     count
 }
 
-// All moves with this tool in their order, written into the buffers: a kind and two numbers a move. Refusals in order: 12, 22, then 24 for the kinds, then for the numbers.
+// All moves with this tool in their order, written into the buffers. Refusals in order: 12, 22, then 24 for the kinds, then for the numbers.
 // For `panel_c`, which is lent a drawing.
-pub fn look_moves(
-    view: &View,
-    t: Tool,
-    kinds: &mut [u8],
-    numbers: &mut [f32],
-) -> Result<usize, NotListed>
+pub fn look_moves(view: &View, t: Tool, lists: &mut MoveLists) -> Result<usize, NotListed>
     requires { PlacedIn view.now.drawing.now view.now.x.now }
-    ensures { (q : Plan) → Is q view.now.drawing.now → Lists (given_moves q (whole_tool t)) kinds.old numbers.old kinds.new numbers.new result }
+    ensures { (q : Plan) → Is q view.now.drawing.now → ListsIn (given_moves q (whole_tool t)) lists.old lists.new result }
 {
     let by = setting(view.drawing.counts, t)?;
     let count = count_moves(view);
-    if kinds.len() < count {
+    if lists.kinds.len() < count {
         return Err(NotListed::KindsShort);
     }
-    if numbers.len() < 2 * count {
+    if lists.numbers.len() < 2 * count {
         return Err(NotListed::NumbersShort);
     }
-    Ok(put_moves(view, by, kinds, numbers))
+    Ok(put_moves(view, by, lists))
 }
 
-// The same of a drawing by value.
+// The same of a drawing by value: a kind and two numbers a move.
 pub fn moves_into(
     v: Placed,
     t: Tool,
@@ -151,5 +147,5 @@ pub fn moves_into(
     requires { IsPlaced v }
     ensures { (q : Plan) → Is q v.drawing → Lists (given_moves q (whole_tool t)) kinds.old numbers.old kinds.new numbers.new result }
 {
-    look_moves(&v.view(), t, kinds, numbers)
+    look_moves(&v.view(), t, &mut MoveLists { kinds, numbers })
 }

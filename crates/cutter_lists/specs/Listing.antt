@@ -7,6 +7,7 @@ use Rattle.words.specs.Writing.{Stored, stored_none, behind, length-stored}
 use Rattle.tool.specs.declared.Move.{Move}
 use Rattle.tool.specs.declared.Move.TheVariants.{Travel, Plunge, Cut, Lift}
 use Rattle.tool.specs.Showing.{Shows, in_floats, IsMove, move_kind, move_numbers}
+use Rattle.cutter_lists.specs.declared.MoveLists.{MoveLists}
 
 -- the kinds of moves, and their numbers, in f32
 abbrev pub kinds_of : List WholeMove → List ℕ
@@ -28,6 +29,19 @@ pub record Puts (kinds : List ℕ) (numbers : List Float) (i : ℕ) (ms : List W
   pub numbers-stored : Stored numbers (2 * i) (numbers_of ms) numbers'
   pub behind : end ≡ i + length ms
   pub exact : Exactly ms
+
+-- the same buffers, with the moves in them
+pub record PutsIn (before : MoveLists) (i : ℕ) (ms : List WholeMove) (after : MoveLists) (end : ℕ) : Type 0 where
+  pub same-kinds : after.kinds.ghost_name ≡ before.kinds.ghost_name
+  pub same-numbers : after.numbers.ghost_name ≡ before.numbers.ghost_name
+  pub puts : Puts before.kinds.now before.numbers.now i ms after.kinds.now after.numbers.now end
+
+-- the same buffers, with m as move i
+pub record PutsMove (before : MoveLists) (i : ℕ) (m : Move) (after : MoveLists) : Type 0 where
+  pub same-kinds : after.kinds.ghost_name ≡ before.kinds.ghost_name
+  pub same-numbers : after.numbers.ghost_name ≡ before.numbers.ghost_name
+  pub kind : after.kinds.now ≡ set before.kinds.now i (move_kind m)
+  pub pair : after.numbers.now ≡ sets before.numbers.now (2 * i) (move_numbers m)
 
 -- ---- laws
 
@@ -60,12 +74,12 @@ exactly_append (m ∷ ms) ns a b = (a.0, exactly_append ms ns a.1 b)
 
 module _ {kinds : List ℕ} {numbers : List Float} {i : ℕ} where
   -- nothing is put
-  pub puts_none : Puts kinds numbers i [] kinds numbers i
+  puts_none : Puts kinds numbers i [] kinds numbers i
   puts_none = record { kinds-stored = stored_none kinds i; numbers-stored = stored_none numbers (2 * i); behind = omega arith; exact = tt }
 
   module _ {ms : List WholeMove} {kinds₁ : List ℕ} {numbers₁ : List Float} {j : ℕ} (p : Puts kinds numbers i ms kinds₁ numbers₁ j) where
     -- some moves, and then others behind them
-    pub puts_both : {ns : List WholeMove} {kinds₂ : List ℕ} {numbers₂ : List Float} {end : ℕ} → Puts kinds₁ numbers₁ j ns kinds₂ numbers₂ end → Puts kinds numbers i (ms ++ ns) kinds₂ numbers₂ end
+    puts_both : {ns : List WholeMove} {kinds₂ : List ℕ} {numbers₂ : List Float} {end : ℕ} → Puts kinds₁ numbers₁ j ns kinds₂ numbers₂ end → Puts kinds numbers i (ms ++ ns) kinds₂ numbers₂ end
     puts_both {ns} q =
         record {
           kinds-stored = rw (kinds_append ms ns) (behind (omega (arith, p.behind, length-kinds ms)) p.kinds-stored q.kinds-stored);
@@ -75,27 +89,45 @@ module _ {kinds : List ℕ} {numbers : List Float} {i : ℕ} where
         }
 
     -- the buffers keep their lengths
-    pub puts_long : (length kinds₁ ≡ length kinds) × (length numbers₁ ≡ length numbers)
+    puts_long : (length kinds₁ ≡ length kinds) × (length numbers₁ ≡ length numbers)
     puts_long = (length-stored p.kinds-stored, length-stored p.numbers-stored)
 
--- one move
-pub puts_one : {kinds kinds' : List ℕ} {numbers numbers' : List Float} (i : ℕ) (m : Move) {v : WholeMove} → IsMove m v → kinds' ≡ set kinds i (move_kind m) → numbers' ≡ sets numbers (2 * i) (move_numbers m) →
-    Puts kinds numbers i (v ∷ []) kinds' numbers' (i + 1)
-puts_one i m {v} is k n =
-    record {
-      kinds-stored = record { is = rw (← is.0) k };
-      numbers-stored = record { is = rw (← is.0, append-nil (move_numbers m)) n };
-      behind = refl;
-      exact = (rw (← is.0) is.1, tt);
-    }
+module _ {before : MoveLists} where
+  -- nothing is put
+  pub in_none : (i : ℕ) → PutsIn before i [] before i
+  in_none i = record { same-kinds = refl; same-numbers = refl; puts = puts_none }
+
+  module _ {i : ℕ} {ms : List WholeMove} {middle : MoveLists} {j : ℕ} (p : PutsIn before i ms middle j) where
+    -- some moves, and then others behind them
+    pub in_both : {ns : List WholeMove} {after : MoveLists} {end : ℕ} → PutsIn middle j ns after end → PutsIn before i (ms ++ ns) after end
+    in_both q = record { same-kinds = q.same-kinds ∙ p.same-kinds; same-numbers = q.same-numbers ∙ p.same-numbers; puts = puts_both p.puts q.puts }
+
+    -- the buffers keep their lengths
+    pub in_long : (length middle.kinds.now ≡ length before.kinds.now) × (length middle.numbers.now ≡ length before.numbers.now)
+    in_long = puts_long p.puts
+
+  -- one move
+  pub in_one : (i : ℕ) (m : Move) {v : WholeMove} {after : MoveLists} → IsMove m v → PutsMove before i m after → PutsIn before i (v ∷ []) after (i + 1)
+  in_one i m is p =
+      record {
+        same-kinds = p.same-kinds;
+        same-numbers = p.same-numbers;
+        puts =
+            record {
+              kinds-stored = record { is = rw (← is.0) p.kind };
+              numbers-stored = record { is = rw (← is.0, append-nil (move_numbers m)) p.pair };
+              behind = refl;
+              exact = (rw (← is.0) is.1, tt);
+            };
+      }
 
 -- one move more of some moves
-pub puts_next : (ms : List WholeMove) (j : ℕ) {kinds kinds₁ kinds₂ : List ℕ} {numbers numbers₁ numbers₂ : List Float} {i : ℕ} (m : Move) → j < length ms → Puts kinds numbers i (take j ms) kinds₁ numbers₁ (i + j) →
-    IsMove m (get_or ms j (lift 0)) → kinds₂ ≡ set kinds₁ (i + j) (move_kind m) → numbers₂ ≡ sets numbers₁ (2 * (i + j)) (move_numbers m) → Puts kinds numbers i (take (j + 1) ms) kinds₂ numbers₂ (i + (j + 1))
-puts_next ms j {i = i} m h p is k n =
+pub in_next : (ms : List WholeMove) (j : ℕ) {before middle after : MoveLists} {i : ℕ} (m : Move) → j < length ms → PutsIn before i (take j ms) middle (i + j) → IsMove m (get_or ms j (lift 0)) → PutsMove middle (i + j) m after →
+    PutsIn before i (take (j + 1) ms) after (i + (j + 1))
+in_next ms j {i = i} m h p is q =
     let e : i + j + 1 ≡ i + (j + 1) = omega arith in
-    rw (add-one j, take-suc ms j (lift 0) h, ← add-one j, ← e) (puts_both p (puts_one (i + j) m is k n))
+    rw (add-one j, take-suc ms j (lift 0) h, ← add-one j, ← e) (in_both p (in_one (i + j) m is q))
 
 -- all of them
-pub puts_all : (ms : List WholeMove) (j : ℕ) {kinds kinds₁ : List ℕ} {numbers numbers₁ : List Float} {i end : ℕ} → length ms ≤ j → Puts kinds numbers i (take j ms) kinds₁ numbers₁ end → Puts kinds numbers i ms kinds₁ numbers₁ end
-puts_all ms j h p = rw (take_all j ms h) at p
+pub in_all : (ms : List WholeMove) (j : ℕ) {before after : MoveLists} {i end : ℕ} → length ms ≤ j → PutsIn before i (take j ms) after end → PutsIn before i ms after end
+in_all ms j h p = rw (take_all j ms h) at p

