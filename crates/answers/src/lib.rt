@@ -9,6 +9,7 @@ ghost use Rattle.answers.specs.Told.{listed_refusal, import_refusal};
 use rules::{Line, Place, Refusal, Refused};
 
 // A line as it is seen: with its bend, and where the bend lies, or a straight line.
+// A Line with an Option for the place would be no plainer: with bends there always is one, and straight there never is.
 #[derive(Clone, Copy, Debug, PartialEq, Eq)]
 pub enum LineSeen {
     Bent(Line, Place),
@@ -52,6 +53,7 @@ pub struct Sizes {
 }
 
 // Why an import was not written: it is refused, or a buffer is too short.
+// One enum with NotListed would be no plainer: C is told of each buffer by name, so it would want an enum of two names for each call.
 #[derive(Clone, Copy, Debug, PartialEq, Eq)]
 pub enum NotImported {
     Refused(Refused),

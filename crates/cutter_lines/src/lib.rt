@@ -127,7 +127,7 @@ impl Groove {
     }
 }
 
-// How often a line is cut: a guide never, a plain line once, a feeder twice.
+// How often a line is cut: a guide never, a plain line once, a feeder twice. One function with `last_field` and `top_bits` of `words` would be no plainer: the three numbers are others.
 fn cuts_of(kind: Kind) -> usize
     ensures value { result ≡ cuts kind }
     ensures some { result ≤ 2 }

@@ -27,7 +27,7 @@ pub fn orientation(p: Place, q: Place, r: Place) -> i64
     products(q.x, r.y, p.x, q.y, p.y, r.x) - products(q.x, p.y, p.x, r.y, q.y, r.x)
 }
 
-// Whether two orientations have the same sign, zero having none.
+// Whether two orientations have the same sign, zero having none. `signum` would be no plainer: 0 and 0 would be alike.
 fn same_sign(a: i64, b: i64) -> bool
     ensures { result ≡ (above_zero a && above_zero b || below_zero a && below_zero b) }
 {

@@ -28,7 +28,7 @@ pub fn line_joins(line: &Cursor, style: Style, later: u16, earlier: u16) -> bool
         && word_at(line.file, line.at + EARLIER_AT) == earlier
 }
 
-// The entry of the line record at the cursor, as a call takes it. An earlier point that has no such form isn't placed: 0, which isn't placed either.
+// The entry of the line record at the cursor, as a call takes it. An earlier point that has no such form isn't placed: 0, which isn't placed either. An Option would be no plainer: the call is to refuse it as it refuses 0, so that for None 0 would be put into it all the same.
 pub fn entry_at(line: &Cursor, style: Style) -> u16
     requires { line.now.at + line_size style ≤ length line.now.file.now }
     ensures { result ≡ number_for (entry_in style (line_at style line.now.file.now line.now.at)) }

@@ -137,7 +137,7 @@ pub enum Style {
 }
 
 // Where a line bends: nowhere, or at a left, right or middle port, with the port's index.
-// `NoBend` stands first, so that a line of zeros has none.
+// `NoBend` stands first, so that a line of zeros has none. It is one of document 01's four answers, not a missing one: an Option of the other three would be no plainer.
 #[derive(Clone, Copy, Debug, PartialEq, Eq)]
 pub enum Bend {
     NoBend,

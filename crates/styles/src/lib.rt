@@ -1,4 +1,5 @@
 // What the two drawings differ in, as the running program needs it: the code of what `rules` has in specs/Styles.
+// A function for each number, as there is a definition for each: a table of both styles' numbers would be no plainer, since it would be got by such a match too, and its numbers proved one by one.
 #![tactic(auto)]
 
 ghost use Rattle.std.specs.Prelude.{◌≡◌, ◌<◌, ◌≤◌};

@@ -49,7 +49,7 @@ fn low_bits(e: u16) -> u16
     e & POINT_MASK
 }
 
-// The same, to compute with.
+// The same, to compute with: `usize::from(entry_of(e).point)` is no plainer at each place, and would look at the kind too.
 pub fn point_of(e: u16) -> usize
     ensures { result ≡ (entry_of e).point }
 {
@@ -124,7 +124,7 @@ const PLAIN_FIELD: u16 = 1;
 
 const FEEDER_FIELD: u16 = 2;
 
-// The field of a line of this kind.
+// The field of a line of this kind. One function with `top_bits` would be no plainer: it would be handed the three numbers, and each has its own definition.
 pub fn last_field(k: Kind) -> u16
     ensures { result ≡ last_field k }
 {
