@@ -1,11 +1,6 @@
 -- The calls made so far, over plain lists: what the loop keeps, and one turn of it.
-use Prim.Native.Nat.{ℕ, suc, ◌+◌, ◌-◌, ◌*◌, ◌<◌, ◌≤◌}
-use mathlib.Core.Path.{◌≡◌, refl, ap, sym, ◌∙◌, subst}
-use mathlib.Core.List.{List, [], ◌∷◌, ◌++◌, append_assoc, append-nil}
-use native.Mathlib.Numerals.{add-one}
-use native.Mathlib.Omega.{arith}
-use lib.ListN.{length, get_or, take, drop, set, length-set, length-take, take-append-drop}
-use lib.Seq.{take-suc-set, drop-set-lt, drop-drop, lt-length-set}
+use Rattle.std.specs.Prelude.{ℕ, suc, ◌+◌, ◌-◌, ◌*◌, ◌<◌, ◌≤◌, ◌≡◌, refl, List, [], ◌∷◌, ◌++◌, length, get_or, take, drop, set}
+use Rattle.std.proofs.Common.{ap, sym, ◌∙◌, subst, append_assoc, append-nil, add-one, arith, length-set, length-take, take-append-drop, take-suc-set, drop-set-lt, drop-drop, lt-length-set}
 use Rattle.rules.specs.declared.Style.{Style}
 use Rattle.rules.specs.Refusals.{Answer, answer}
 use Rattle.rules.specs.Points.{Drawing as Plan, opening}

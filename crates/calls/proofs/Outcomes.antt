@@ -1,13 +1,9 @@
 -- The four outcomes of running a list of calls, and where it starts.
-use Prim.Native.Nat.{ℕ, ◌*◌, ◌<◌, ◌≤◌}
-use mathlib.Core.Path.{◌≡◌, refl, ap, ◌∙◌}
-use mathlib.Core.List.{List}
-use native.Mathlib.Omega.{arith}
-use lib.ListN.{length}
+use Rattle.std.proofs.Common.{ap, ◌∙◌, arith}
 use Rattle.rules.specs.declared.Style.{Style}
 use Rattle.rules.specs.declared.Style.TheVariants.{OneBend, Straight}
 use Rattle.rules.specs.declared.Kind.TheVariants.{Plain}
-use Rattle.std.specs.Prelude.{Ok, Err}
+use Rattle.std.specs.Prelude.{ℕ, ◌*◌, ◌<◌, ◌≤◌, ◌≡◌, refl, List, Ok, Err, length}
 use Rattle.rules.specs.declared.Refusal.TheVariants.{OutOfRange, OutputShort}
 use Rattle.rules.specs.Refusals.{Answer, refusal_at}
 use Rattle.rules.specs.Calls.{drawn}

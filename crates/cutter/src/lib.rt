@@ -73,11 +73,7 @@ fn setting(c: Counts, t: Tool) -> Answer<Setting>
 
 // Move `number`, from 0, of the moves with this tool. Refusals in order: 12, 22, 23.
 // For `panel_c`, which is lent a drawing. It takes the time of one pass over the lines.
-pub fn look_move(
-    view: &View,
-    t: Tool,
-    number: usize,
-) -> Answer<Move>
+pub fn look_move(view: &View, t: Tool, number: usize) -> Answer<Move>
     requires { PlacedIn view.now.drawing.now view.now.x.now }
     ensures { (q : Plan) → Is q view.now.drawing.now → MoveSeen result (move_at q (whole_tool t) number) }
 {
@@ -109,12 +105,7 @@ pub fn move_count(v: Placed) -> Answer<usize>
 }
 
 // Puts all moves of the drawing into the buffers.
-fn put_moves(
-    view: &View,
-    by: Setting,
-    kinds: &mut [u8],
-    numbers: &mut [f32],
-) -> usize
+fn put_moves(view: &View, by: Setting, kinds: &mut [u8], numbers: &mut [f32]) -> usize
     requires placed { PlacedIn view.now.drawing.now view.now.x.now }
     requires scaled { by.scale ≡ view.now.drawing.now.counts.s }
     requires room { RoomIn view.now.drawing.now by.tool (length kinds.old) (length numbers.old) }

@@ -15,9 +15,8 @@ ghost use Rattle.drawing.specs.Places.{IsPlaced};
 use answers::LineSeen;
 use rules::{Answer, FEWEST_POINTS, MOST_POINTS, Place, Refusal, Style};
 use store_settling::View;
-use store_tables::POINTS;
-
 pub use store_tables::Drawing;
+use store_tables::POINTS;
 
 // A drawing with the x of every placed point, settled once for many look-ups.
 #[derive(Clone, Copy)]

@@ -1,12 +1,11 @@
-// What is asked of the drawing in a lent table that goes with an accepting answer: a move, all moves, a point, a line, a cut line; or that answer's refusal.
+// What is asked of the lent drawing that goes with an accepting answer: a move, all moves, a point, a line, a cut line; or that answer's refusal.
 // For `panel_doors` and `printing_moves`: it asks that an accepting answer has its drawing.
 #![tactic(auto)]
 
 ghost use Rattle.std.specs.Prelude.{ℕ};
 ghost use Rattle.rules.specs.Refusals.{Answer as AnswerOf};
 ghost use Rattle.rules.specs.Points.{Drawing as Plan};
-ghost use Rattle.store_laws.specs.Adding.{Holds};
-ghost use Rattle.store_tables.specs.Tables.{arrays_in};
+ghost use Rattle.store_laws.specs.Stored.{Is};
 ghost use Rattle.drawing.specs.View.{Came};
 ghost use Rattle.panel_asked.specs.Asking.{HasDrawing, Finds, asks};
 ghost use Rattle.panel_asked.specs.Listing.{FindsAll};
@@ -15,31 +14,32 @@ ghost use Rattle.panel_asked.specs.Questions.{move_asked, point_asked, line_aske
 use answers::{LineSeen, NotListed};
 use panel_told::ForC;
 use rules::{Answer, Place};
-use store_links::Counts;
-use store_tables::Table;
+use store_settling::View;
+use store_tables::Drawing;
 use tool::{Move, Tool};
 
-// A question to a drawing in a lent table. Of what it finds C is told with N words.
+// A question to a lent drawing. Of what it finds C is told with N words.
 pub trait Question<A, const N: usize>: Drop {
     type Found: ForC<A, N>;
 
     ghost right: { Self → Plan → AnswerOf Self.Found → Type 0 };
 
-    fn find(self, table: &Table, c: Counts) -> Answer<Self::Found>
-        requires { Came (record { counts = c; table = table.now }) }
-        ensures { (q : Plan) → Holds q (arrays_in table.now) c → right self q result };
+    fn find(self, d: &Drawing) -> Answer<Self::Found>
+        requires { Came d.now }
+        ensures { (q : Plan) → Is q d.now → right self q result };
 }
 
 // Asks the drawing that goes with an accepting answer.
 pub fn find<A, const N: usize, Q: Question<A, N>>(
-    drawn: Answer<Counts>,
-    table: &Table,
+    answer: Answer<()>,
+    d: &Drawing,
     question: Q,
 ) -> Answer<Q::Found>
-    requires { HasDrawing drawn table.now }
-    ensures { Finds (asks (Q.right question) Q.Found.given) drawn table.now result }
+    requires { HasDrawing answer d.now }
+    ensures { Finds (asks (Q.right question) Q.Found.given) answer d.now result }
 {
-    question.find(table, drawn?)
+    answer?;
+    question.find(d)
 }
 
 // Move `number`, from 0, with this tool.
@@ -54,9 +54,9 @@ impl Question<f32, 2> for MoveAsked {
 
     ghost right = { λ s. (move_asked s.tool s.number).right };
 
-    fn find(self, table: &Table, c: Counts) -> Answer<Move> {
-        let x = store_looking::settled(table, c.k);
-        cutter::look_move(table, &x, c, self.tool, self.number)
+    fn find(self, d: &Drawing) -> Answer<Move> {
+        let x = store_looking::settled(d);
+        cutter::look_move(&View { drawing: d, x: &x }, self.tool, self.number)
     }
 }
 
@@ -69,9 +69,9 @@ impl Question<u64, 2> for PointAsked {
 
     ghost right = { λ s. (point_asked s.0).right };
 
-    fn find(self, table: &Table, c: Counts) -> Answer<Place> {
-        let x = store_looking::settled(table, c.k);
-        store_looking::look_point(table, &x, c, self.0)
+    fn find(self, d: &Drawing) -> Answer<Place> {
+        let x = store_looking::settled(d);
+        store_looking::look_point(&View { drawing: d, x: &x }, self.0)
     }
 }
 
@@ -84,9 +84,9 @@ impl Question<u64, 7> for LineAsked {
 
     ghost right = { λ s. (line_asked s.0).right };
 
-    fn find(self, table: &Table, c: Counts) -> Answer<LineSeen> {
-        let x = store_looking::settled(table, c.k);
-        store_looking::look_line(table, &x, c, self.0)
+    fn find(self, d: &Drawing) -> Answer<LineSeen> {
+        let x = store_looking::settled(d);
+        store_looking::look_line(&View { drawing: d, x: &x }, self.0)
     }
 }
 
@@ -99,8 +99,8 @@ impl Question<u64, 3> for EndsAsked {
 
     ghost right = { λ s. (ends_asked s.0).right };
 
-    fn find(self, table: &Table, c: Counts) -> Answer<LineSeen> {
-        LineAsked(self.0).find(table, c)
+    fn find(self, d: &Drawing) -> Answer<LineSeen> {
+        LineAsked(self.0).find(d)
     }
 }
 
@@ -113,23 +113,23 @@ impl Question<u64, 1> for CutAsked {
 
     ghost right = { λ s. (cut_asked s.0).right };
 
-    fn find(self, table: &Table, c: Counts) -> Answer<Option<usize>> {
-        store_looking::look_cut(table, c, self.0)
+    fn find(self, d: &Drawing) -> Answer<Option<usize>> {
+        store_looking::look_cut(d, self.0)
     }
 }
 
 // All moves, written into two buffers: how many there are.
 pub fn moves_from(
-    drawn: Answer<Counts>,
-    table: &Table,
+    drawn: Answer<()>,
+    d: &Drawing,
     t: Tool,
     kinds: &mut [u8],
     numbers: &mut [f32],
 ) -> Result<usize, NotListed>
-    requires { HasDrawing drawn table.now }
-    ensures { FindsAll drawn table.now t kinds.old numbers.old kinds.new numbers.new result }
+    requires { HasDrawing drawn d.now }
+    ensures { FindsAll drawn d.now t kinds.old numbers.old kinds.new numbers.new result }
 {
-    let c = drawn?;
-    let x = store_looking::settled(table, c.k);
-    cutter::look_moves(table, &x, c, t, kinds, numbers)
+    drawn?;
+    let x = store_looking::settled(d);
+    cutter::look_moves(&View { drawing: d, x: &x }, t, kinds, numbers)
 }

@@ -3,10 +3,8 @@ use Rattle.std.specs.Prelude.{ℕ, ◌≡◌, List, Ok, Err}
 use Rattle.std.proofs.Common.{arith}
 use Rattle.rules.specs.declared.Refused.{Refused}
 use Rattle.exchange.specs.Built.{Reached}
-use Rattle.store_links.specs.declared.Counts.{Counts}
-use Rattle.store_laws.specs.Adding.{Holds}
-use Rattle.store_tables.specs.declared.Table.{Table}
-use Rattle.store_tables.specs.Tables.{arrays_in}
+use Rattle.store_tables.specs.declared.Drawing.{Drawing}
+use Rattle.store_laws.specs.Stored.{Is}
 use Rattle.panel_asked.specs.Asking.{Drew}
 use Rattle.rules.specs.declared.Style.{Style}
 use Rattle.rules.specs.Refusals.{Result, good, refused, Answer, refusal_at, ◌>>=◌}
@@ -40,18 +38,16 @@ pub record FileTold (Gives : Result Plan → Type 0) (short : ℕ) (before after
 abbrev pub CallsExported : Style → ℕ → List ℕ → List ℕ → List ℕ → List ℕ → List ℕ → ℕ → List ℕ → Type 0
 CallsExported τ n ws saidBefore saidAfter before after r refusal = FileTold (CallsGive τ n ws saidBefore saidAfter) answers_buffer before after r refusal
 
-module _ {Gives : Result Plan → Type 0} {short : ℕ} {before : List ℕ} (t : Table) {r : ℕ} {refusal : List ℕ} where
-  -- The file of the drawing that the table holds.
-  pub told-drawn : {after : List ℕ} {w : Answer ℕ} (o : Result Plan) (c : Counts) → Gives o → Drew o t (Ok c) → ((q : Plan) → Reached q → Holds q (arrays_in t) c → Wrote before (write_drawing q) after w) →
+module _ {Gives : Result Plan → Type 0} {short : ℕ} {before : List ℕ} (d : Drawing) {r : ℕ} {refusal : List ℕ} where
+  -- The file of the drawing.
+  pub told-drawn : {after : List ℕ} {w : Answer ℕ} (o : Result Plan) → Gives o → Drew o d (Ok tt) → ((q : Plan) → Reached q → Is q d → Wrote before (write_drawing q) after w) →
       r ≡ code_of (file_given w) → refusal ≡ refusal_of output_buffer (file_given w) → FileTold Gives short before after r refusal
-  told-drawn {w = w} (good q) c g d wrote n p =
-      let same : c ≡ d.0 = cc d.1 in
-      record { outcome = good q; gives = g; written = record { written = w; wrote = wrote q d.2 (rw same d.3); count = n; place = p } }
-  told-drawn (refused f p) c g d wrote n l = absurd (let z : ◌≡◌ {A = ℕ} 0 1 = cc d in omega arith)
+  told-drawn {w = w} (good q) g h wrote n p = record { outcome = good q; gives = g; written = record { written = w; wrote = wrote q h.1 h.2; count = n; place = p } }
+  told-drawn (refused f p) g h wrote n l = absurd (let z : ◌≡◌ {A = ℕ} 0 1 = cc h in omega arith)
 
   -- No file, and the source's refusal.
-  pub told-refused : (o : Result Plan) (e : Refused) → Gives o → Drew o t (Err e) → r ≡ code_of (file_given (Err e)) → refusal ≡ refusal_of short (file_given (Err e)) → FileTold Gives short before before r refusal
-  told-refused (good q) e g d n p = absurd (let z : ◌≡◌ {A = ℕ} 0 1 = cc d.1 in omega arith)
-  told-refused (refused f p) e g d n l =
-      let same : e ≡ refusal_at f p = cc d in
+  pub told-refused : (o : Result Plan) (e : Refused) → Gives o → Drew o d (Err e) → r ≡ code_of (file_given (Err e)) → refusal ≡ refusal_of short (file_given (Err e)) → FileTold Gives short before before r refusal
+  told-refused (good q) e g h n p = absurd (let z : ◌≡◌ {A = ℕ} 0 1 = cc h.0 in omega arith)
+  told-refused (refused f p) e g h n l =
+      let same : e ≡ refusal_at f p = cc h in
       record { outcome = refused f p; gives = g; written = record { written = Err e; wrote = rw same (turned before f p); count = n; place = l } }

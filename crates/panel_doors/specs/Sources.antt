@@ -9,10 +9,9 @@ use Rattle.rules.specs.Calls.{drawn}
 use Rattle.rules.specs.OrderFile.{read_order}
 use Rattle.exchange.specs.Built.{Reached}
 use Rattle.exchange.specs.Reaching.{reached-drawn}
-use Rattle.store_links.specs.declared.Counts.{Counts}
-use Rattle.store_tables.specs.declared.Table.{Table}
-use Rattle.drawing.specs.declared.Drawing.{Drawing}
-use Rattle.drawing.specs.View.{Is, told_drawing}
+use Rattle.store_tables.specs.declared.Drawing.{Drawing}
+use Rattle.store_laws.specs.Stored.{Is}
+use Rattle.drawing.specs.View.{told_drawing}
 use Rattle.calls_words.specs.Lists.{calls_in}
 use Rattle.calls.specs.Ran.{Ran, drawing_in}
 use Rattle.panel_asked.specs.Asking.{Drew}
@@ -61,7 +60,7 @@ module _ {τ : Style} {n : ℕ} {ws before after : List ℕ} where
       go-low true e = absurd (never (t.low (ltb-true _ _ e)).answer)
       go-low false e = go-high (ltb-false _ _ e) (ltb 1024 n) refl
 
-  -- what the list gives was drawn into the table
-  pub drew-ran : (r : Answer Counts) (t : Table) → Ran τ n ws before after (drawing_in r t) → (o : Result Plan) × CallsGive τ n ws before after o × Drew o t r
-  drew-ran (Ok c) t h = let d = drew h in (good (drawn τ n (calls_in ws)), record { done = Ok (record { counts = c; table = t }); ran = h; is = refl }, (c, refl, d.0, d.1))
-  drew-ran (Err e) t h = (refused e.refusal e.place, record { done = Err e; ran = h; is = refl }, refl)
+  -- what the list gives was drawn
+  pub drew-ran : (r : Answer (Unit {0})) (d : Drawing) → Ran τ n ws before after (drawing_in r d) → (o : Result Plan) × CallsGive τ n ws before after o × Drew o d r
+  drew-ran (Ok t) d h = let w = drew h in (good (drawn τ n (calls_in ws)), record { done = Ok d; ran = h; is = refl }, (refl, w.0, w.1))
+  drew-ran (Err e) d h = (refused e.refusal e.place, record { done = Err e; ran = h; is = refl }, refl)

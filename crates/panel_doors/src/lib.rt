@@ -7,7 +7,7 @@ ghost use Rattle.rules.specs.declared.Style.{Style};
 ghost use Rattle.rules.specs.Refusals.{Result as ResultOf};
 ghost use Rattle.rules.specs.Points.{Drawing as Plan};
 ghost use Rattle.rules.specs.DrawingFile.{draw_file, order_back};
-ghost use Rattle.store_tables.specs.Tables.{zeros};
+ghost use Rattle.store_tables.specs.Tables.{blank};
 ghost use Rattle.panel_words.specs.Words.{buffer_number, no_buffer, output_buffer, answers_buffer};
 ghost use Rattle.panel_asked.specs.Asking.{Drew, HasDrawing, asks};
 ghost use Rattle.panel_doors.specs.Sources.{OrderGives, CallsGive};
@@ -19,8 +19,7 @@ ghost use Rattle.panel_doors.specs.Imports.{ImportTold};
 use panel_asked::Question;
 use panel_words::Buffer;
 use rules::{Answer, Style};
-use store_links::Counts;
-use store_tables::Table;
+use store_tables::Drawing;
 use tool::Tool;
 
 // Where a drawing comes from. What it answers on the way goes into `answers`; and it says which buffer of its own it can find too short.
@@ -33,10 +32,10 @@ pub trait Source: Drop {
     fn short(&self) -> Buffer
         ensures { buffer_number result ≡ short };
 
-    fn draw_in(&self, style: Style, table: &mut Table, answers: &mut [u16]) -> Answer<Counts>
-        requires { table.old ≡ zeros }
-        ensures has { HasDrawing result table.new }
-        ensures drew { (o : ResultOf Plan) × gives style self.now answers.old answers.new o × Drew o table.new result };
+    fn draw_in(&self, style: Style, d: &mut Drawing, answers: &mut [u16]) -> Answer<()>
+        requires { d.old ≡ blank }
+        ensures has { HasDrawing result d.new }
+        ensures drew { (o : ResultOf Plan) × gives style self.now answers.old answers.new o × Drew o d.new result };
 }
 
 // An order file, which has no answers.
@@ -52,8 +51,8 @@ impl Source for OrderFile<'_> {
         Buffer::None
     }
 
-    fn draw_in(&self, style: Style, table: &mut Table, _answers: &mut [u16]) -> Answer<Counts> {
-        read_orders::read_order(self.0, style, table)
+    fn draw_in(&self, style: Style, d: &mut Drawing, _answers: &mut [u16]) -> Answer<()> {
+        read_orders::read_order(self.0, style, d)
     }
 }
 
@@ -73,8 +72,8 @@ impl Source for Calls<'_> {
         Buffer::Answers
     }
 
-    fn draw_in(&self, style: Style, table: &mut Table, answers: &mut [u16]) -> Answer<Counts> {
-        calls::run_in(table, style, self.n, self.calls, answers)
+    fn draw_in(&self, style: Style, d: &mut Drawing, answers: &mut [u16]) -> Answer<()> {
+        calls::run_in(d, style, self.n, self.calls, answers)
     }
 }
 
@@ -104,10 +103,10 @@ pub fn file<S: Source>(
 ) -> u64
     ensures { FileTold (S.gives style source answers.old answers.new) S.short out.old out.new result refusal.new }
 {
-    let mut table = Table::zeros();
-    match source.draw_in(style, &mut table, answers) {
-        Ok(c) => {
-            let written = write_files::drawing_file(out, &table, c);
+    let mut d = Drawing::blank();
+    match source.draw_in(style, &mut d, answers) {
+        Ok(()) => {
+            let written = write_files::drawing_file(out, &d);
             panel_told::tell_written(written, Buffer::Output, refusal)
         }
         Err(refused) => panel_told::tell_written(Err(refused), source.short(), refusal),
@@ -125,9 +124,9 @@ pub fn ask<A, const N: usize, Q: Question<A, N>, S: Source>(
 ) -> u64
     ensures { Asked (S.gives style source answers.old answers.new) (asks (Q.right question) Q.Found.given) S.short seen.old seen.new result refusal.new }
 {
-    let mut table = Table::zeros();
-    let drawn = source.draw_in(style, &mut table, answers);
-    let found = panel_asked::find(drawn, &table, question);
+    let mut d = Drawing::blank();
+    let drawn = source.draw_in(style, &mut d, answers);
+    let found = panel_asked::find(drawn, &d, question);
     panel_told::tell(found, source.short(), seen, refusal)
 }
 
@@ -143,9 +142,9 @@ pub fn moves<S: Source>(
 ) -> u64
     ensures { MovesTold (S.gives style source answers.old answers.new) S.short t kinds.old numbers.old kinds.new numbers.new result refusal.new }
 {
-    let mut table = Table::zeros();
-    let drawn = source.draw_in(style, &mut table, answers);
-    let listed = panel_asked::moves_from(drawn, &table, t, kinds, numbers);
+    let mut d = Drawing::blank();
+    let drawn = source.draw_in(style, &mut d, answers);
+    let listed = panel_asked::moves_from(drawn, &d, t, kinds, numbers);
     panel_told::tell_listed(listed, source.short(), refusal)
 }
 

@@ -1,12 +1,7 @@
 -- One turn of each loop, over plain lists.
-use Prim.Native.Nat.{ℕ, zero, suc, ◌+◌, ◌-◌, ◌*◌, ◌<◌, ◌≤◌}
-use mathlib.Core.Path.{◌≡◌, refl, ap, sym, ◌∙◌, subst}
-use mathlib.Core.List.{List, [], ◌∷◌, ◌++◌, map}
-use native.Mathlib.Omega.{arith}
-use native.Mathlib.Nat.{zero-add}
-use native.Mathlib.Numerals.{add-one}
-use lib.ListN.{length, get_or, take, drop, set, length-map, length-append, length-drop}
-use lib.Seq.{drop-drop, length-take-le}
+use Rattle.std.specs.Prelude.{ℕ, zero, suc, ◌+◌, ◌-◌, ◌*◌, ◌<◌, ◌≤◌, ◌≡◌, refl, List, [], ◌∷◌, ◌++◌, map, length, get_or, take, drop, set}
+use Rattle.std.proofs.Common.{ap, sym, ◌∙◌, subst, arith, zero-add, add-one, length-append, length-drop, drop-drop, length-take-le}
+use Rattle.std.proofs.lemmas.List.{length-map}
 use Rattle.words.specs.Writing.{Pasted, Stored, stored_next, Ahead, ahead_all, ahead_as, ahead-part, ahead_none}
 use Rattle.planar_numbering.specs.Points.{Fitting}
 use Rattle.planar_rules.specs.PlanarCode.{point_of}

@@ -11,7 +11,7 @@ ghost use Rattle.printing.specs.Began.{Began};
 ghost use Rattle.printing_moves.specs.Paging.{Room, moves_in};
 
 use rules::Style;
-use store_tables::Table;
+use store_tables::Drawing;
 use tool::Tool;
 
 // The page begins with the moves of an order file's drawing for this tool, or with the line of the refusal. Returns how many bytes that is.
@@ -26,9 +26,9 @@ fn tool_page(
     requires { Room (length kinds.old) (length numbers.old) (length page.old) }
     ensures { Printed page.old (lines_of (moves_in style order.now t)) page.new result }
 {
-    let mut table = Table::zeros();
-    let drawn = read_orders::read_order(order, style, &mut table);
-    let listed = panel_asked::moves_from(drawn, &table, t, kinds, numbers);
+    let mut d = Drawing::blank();
+    let drawn = read_orders::read_order(order, style, &mut d);
+    let listed = panel_asked::moves_from(drawn, &d, t, kinds, numbers);
     printing_listed::finish(listed, kinds, numbers, page)
 }
 

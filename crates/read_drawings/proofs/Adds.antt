@@ -1,14 +1,9 @@
 -- A group that was taken and added: the answer is that of the rules, at the group's place, and the lines behind the group are next.
-use Prim.Native.Nat.{ℕ, suc, ◌+◌, ◌-◌, ◌*◌, ◌≤◌}
-use mathlib.Core.Path.{◌≡◌, ap, ap₂, sym, ◌∙◌}
-use mathlib.Core.List.{List, map}
-use native.Mathlib.Omega.{arith}
-use lib.ListN.{length, take}
-use lib.Seq.{length-take-le}
+use Rattle.std.proofs.Common.{ap, ap₂, sym, ◌∙◌, arith, length-take-le}
 use Rattle.rules.specs.declared.Style.{Style}
-use Rattle.std.specs.Prelude.{Ok, Err}
+use Rattle.std.specs.Prelude.{ℕ, suc, ◌+◌, ◌-◌, ◌*◌, ◌≤◌, ◌≡◌, List, map, Ok, Err, length, take}
 use Rattle.rules.specs.declared.Refused.{Refused}
-use Rattle.rules.specs.Refusals.{refused, placed}
+use Rattle.rules.specs.Refusals.{refused, refusal_at, placed}
 use Rattle.rules.specs.Results.{refusing, all_passed}
 use Rattle.rules.specs.Points.{Drawing as Plan}
 use Rattle.rules.specs.Adding.{add_entries, add}
@@ -62,10 +57,10 @@ module _ (τ : Style) (f : List ℕ) (base total : ℕ) (d d' : Drawing) (e : Li
   next_is_lem = ap₂ placed place entered
 
   -- it is refused, at the group's place
-  pub group-refused : {x : Refused} → Answered d (take count e) d' (Err x) → (next_group τ f base total c.lines p ≡ refused x.refusal (base + line_size τ * c.lines)) × Is p d'
-  group-refused {x} s =
+  pub group-refused : {x : Refused} → Answered d (take count e) d' (Err x) → (y : Refused) → y ≡ refusal_at x.refusal (base + line_size τ * c.lines) → (next_group τ f base total c.lines p ≡ refused y.refusal y.place) × Is p d'
+  group-refused {x} s y is =
       let j = refusing (judged (arrays_in d.table) c (take count e)) x (sym s.answer) in
-      (next_is_lem ∙ rw (unadded h s), rw (s.arrays, s.counts, j) h)
+      (next_is_lem ∙ rw (unadded h s, is), rw (s.arrays, s.counts, j) h)
 
   -- it is added
   pub group-added : Answered d (take count e) d' (Ok tt) → Entered τ f base total c d' p

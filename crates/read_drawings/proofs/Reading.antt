@@ -1,11 +1,7 @@
 -- A file that passes: the drawing as opened stores the plan that it begins, and the groups of points 4 to n give the rest.
-use Prim.Native.Nat.{ℕ, ◌+◌, ◌-◌, ◌*◌, ◌≤◌}
-use mathlib.Core.Path.{◌≡◌, ap, ap₂, sym, ◌∙◌, subst}
-use mathlib.Core.List.{List}
-use native.Mathlib.Omega.{arith}
-use lib.ListN.{length}
+use Rattle.std.proofs.Common.{ap, ap₂, sym, ◌∙◌, subst, arith}
 use Rattle.rules.specs.declared.Style.{Style}
-use Rattle.std.specs.Prelude.{Err}
+use Rattle.std.specs.Prelude.{ℕ, ◌+◌, ◌-◌, ◌*◌, ◌≤◌, ◌≡◌, List, Err, length}
 use Rattle.rules.specs.declared.Refused.{Refused}
 use Rattle.rules.specs.Refusals.{Answer, Result, answer}
 use Rattle.rules.specs.Readings.{entry_of}
@@ -59,5 +55,5 @@ module _ {τ : Style} {f : List ℕ} (t : Passes τ f) (n s : ℕ) (isN : n ≡ 
       ap (λ (m : ℕ). judge_rest τ (m - 3) (lines_end τ m) (begun_in τ f) (lines_at τ f (line_count m - 3) (lines_from m + line_size τ * 3))) isN ∙ sym t.left
 
   -- the whole file
-  pub all_read : {d d' : Drawing} {r : Answer (Unit {0})} → d.counts ≡ open_counts τ n s → Is (begun_in τ f) d → AllGrouped τ f (head_size + place_size * n) (3 * n - 6) d d' r → LinesRead τ f d' r
-  all_read {d' = d'} {r = r} e h g = subst (λ (o : Result Plan). Gave o d' r) (left_over e) (g (begun_in τ f) h)
+  pub all_read : (d : Drawing) {d' : Drawing} {r : Answer (Unit {0})} → d.counts ≡ open_counts τ n s → Is (begun_in τ f) d → AllGrouped τ f (head_size + place_size * n) (3 * n - 6) d d' r → LinesRead τ f d' r
+  all_read d {d'} {r} e h g = subst (λ (o : Result Plan). Gave o d' r) (left_over e) (g (begun_in τ f) h)

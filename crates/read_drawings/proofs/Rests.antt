@@ -1,10 +1,7 @@
 -- One turn of the loop over the groups: what is left to judge, from the plan that is stored.
-use Prim.Native.Nat.{ℕ, suc, ◌+◌, ◌-◌, ◌*◌, ◌<◌, ◌≤◌}
-use mathlib.Core.Path.{◌≡◌, refl, ap, ◌∙◌}
-use mathlib.Core.List.{List}
-use native.Mathlib.Omega.{arith}
+use Rattle.std.proofs.Common.{ap, ◌∙◌, arith}
 use Rattle.rules.specs.declared.Style.{Style}
-use Rattle.std.specs.Prelude.{Ok, Err}
+use Rattle.std.specs.Prelude.{ℕ, suc, ◌+◌, ◌-◌, ◌*◌, ◌<◌, ◌≤◌, ◌≡◌, refl, List, Ok, Err}
 use Rattle.rules.specs.declared.Refused.{Refused}
 use Rattle.rules.specs.Refusals.{Result, good, ◌>>=◌}
 use Rattle.rules.specs.Points.{Drawing as Plan}

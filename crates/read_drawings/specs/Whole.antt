@@ -1,7 +1,6 @@
 -- What a drawing file that passes all tests before the groups of points 4 to n is known to be, and what is left to judge of it.
 use Rattle.std.specs.Prelude.{ℕ, ◌+◌, ◌-◌, ◌*◌, ◌<◌, ◌≤◌, ◌≡◌, refl, Bool, true, false, List, ◌∷◌, length}
-use Rattle.std.proofs.Common.{ap, ap₂, sym, ◌∙◌, arith}
-use borrow.Author.Tests.{eq-eqb, ne_eqb, lt-ltb}
+use Rattle.std.proofs.Common.{ap, ap₂, sym, ◌∙◌, arith, eq-eqb, ne_eqb, lt-ltb}
 use Rattle.rules.specs.declared.Style.{Style}
 use Rattle.rules.specs.declared.Style.TheVariants.{OneBend}
 use Rattle.rules.specs.Refusals.{Result, good, ◌>>◌}

@@ -1,12 +1,8 @@
 -- A call with more entries than the boundary has points: 21, then entry by entry 13, 6, 7, then 8.
-use Prim.Native.Nat.{ℕ, suc, ◌<◌, ◌≤◌}
-use mathlib.Core.Path.{◌≡◌, refl, sym, ◌∙◌}
-use mathlib.Core.Bool.{Bool, true, false, not}
-use mathlib.Core.List.{List, [], ◌∷◌, map}
-use native.Mathlib.Omega.{arith}
-use lib.ListN.{length, drop, length-drop, length-map}
-use lib.Dec.{eqb}
-use borrow.Author.Tests.{le-leb, lt-leb, le-ltb}
+use Rattle.std.specs.Prelude.{ℕ, suc, ◌<◌, ◌≤◌, ◌≡◌, refl, Bool, true, false, not, List, [], ◌∷◌, map, length, drop, eqb}
+use Rattle.std.proofs.Common.{sym, ◌∙◌, arith, length-drop, le-leb, le-ltb}
+use Rattle.std.proofs.lemmas.List.{length-map}
+use Rattle.std.proofs.lemmas.Bool.{lt-leb}
 use Rattle.rules.specs.declared.Refusal.{Refusal}
 use Rattle.rules.specs.declared.Refusal.TheVariants.{Finished, NoRun}
 use Rattle.rules.specs.Refusals.{good, refused, ◌>>◌, refuse_if}

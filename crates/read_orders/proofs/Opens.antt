@@ -1,7 +1,6 @@
 -- From the records of points 1 to 3 to the rest: the drawing as opened stores what these begin.
-use Prim.Native.Nat.{ℕ, ◌-◌}
-use mathlib.Core.Path.{◌≡◌, sym, subst}
-use mathlib.Core.List.{List, [], ◌∷◌}
+use Rattle.std.specs.Prelude.{ℕ, ◌-◌, ◌≡◌, List, [], ◌∷◌}
+use Rattle.std.proofs.Common.{sym, subst}
 use Rattle.rules.specs.declared.Style.{Style}
 use Rattle.rules.specs.Refusals.{Answer, Result}
 use Rattle.rules.specs.Readings.{entry_of}

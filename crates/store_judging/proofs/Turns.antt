@@ -1,14 +1,6 @@
 -- The tests of one entry, and one turn of the loop along the links, on lists.
-use Rattle.std.specs.Prelude.{Err}
-use Prim.Native.Nat.{ℕ, ◌+◌, ◌-◌, ◌<◌}
-use mathlib.Core.Path.{◌≡◌, refl, sym, ap, ◌∙◌}
-use mathlib.Core.Bool.{not, ◌||◌}
-use mathlib.Core.List.{List, [], ◌∷◌}
-use native.Mathlib.Numerals.{add-one}
-use native.Mathlib.Omega.{arith}
-use lib.ListN.{length, get_or, drop}
-use lib.Seq.{drop-cons}
-use lib.Dec.{ltb, eqb}
+use Rattle.std.specs.Prelude.{ℕ, ◌+◌, ◌-◌, ◌<◌, ◌≡◌, refl, not, ◌||◌, List, [], ◌∷◌, Err, length, get_or, drop, eqb, ltb}
+use Rattle.std.proofs.Common.{sym, ap, ◌∙◌, add-one, arith, drop-cons}
 use Rattle.rules.specs.declared.Refusal.TheVariants.{BothMarks, NotPlaced, Covered, NoRun}
 use Rattle.rules.specs.declared.Entry.{Entry}
 use Rattle.rules.specs.declared.Reading.TheVariants.{Given, Both}

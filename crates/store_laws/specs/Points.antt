@@ -1,6 +1,5 @@
 -- An accepted call, and the numbers of each point after it: heights, ports, depths of rows and owners are the next drawing's.
-use Prim.Native.Nat.{ℕ, zero, suc, pred, ◌+◌, ◌-◌, ◌/◌, ◌<◌, ◌≤◌}
-use Rattle.std.specs.Prelude.{◌≡◌, refl, ◌≢◌, Bool, true, false, List, [], ◌∷◌, map, get_or, take, set}
+use Rattle.std.specs.Prelude.{ℕ, zero, suc, pred, ◌+◌, ◌-◌, ◌/◌, ◌<◌, ◌≤◌, ◌≡◌, refl, ◌≢◌, Bool, true, false, List, [], ◌∷◌, map, get_or, take, set}
 use Rattle.std.proofs.Common.{ap, ◌∙◌, true≢false, arith, take-suc-set, ext_get_or}
 use Rattle.std.proofs.Math.Path.{sym}
 use Rattle.std.proofs.Math.Decide.{ℕ_discrete}

@@ -1,10 +1,6 @@
 -- One turn of each loop over the entries of a run, on lists: entries up to j are passed, entry j + 1 is read. Assumes nothing.
-use mathlib.Core.Path.{◌≡◌}
-use mathlib.Core.Bool.{true, false, ◌||◌}
-use mathlib.Core.List.{List}
-use Prim.Native.Nat.{ℕ, suc, ◌+◌, ◌-◌, ◌<◌}
-use native.Mathlib.Numerals.{add-one}
-use native.Mathlib.Omega.{arith}
+use Rattle.std.specs.Prelude.{ℕ, suc, ◌+◌, ◌-◌, ◌<◌, ◌≡◌, true, false, ◌||◌, List}
+use Rattle.std.proofs.Common.{add-one, arith}
 use Rattle.rules.specs.Adding.{reaches}
 use Rattle.store_links.specs.declared.Spot.{Spot}
 use Rattle.store_links.specs.Arrays.{Arrays}

@@ -1,6 +1,5 @@
 -- The first pass: the x of boundary points, along the links.
-use Prim.Native.Nat.{ℕ, zero, suc, ◌+◌, ◌<◌}
-use Rattle.std.specs.Prelude.{◌≡◌, List, get_or, set}
+use Rattle.std.specs.Prelude.{ℕ, zero, suc, ◌+◌, ◌<◌, ◌≡◌, List, get_or, set}
 use Rattle.std.proofs.Math.Path.{refl}
 
 -- the x once at most `steps` points are walked. The first is p, its gap to the right of `at`; p = 0 is past the last.

@@ -1,10 +1,6 @@
 -- One turn of a loop, on lists.
-use Prim.Native.Nat.{ℕ, zero, suc, ◌+◌, ◌<◌, max}
-use mathlib.Core.Path.{◌≡◌}
-use mathlib.Core.List.{List, [], ◌∷◌}
-use native.Mathlib.Omega.{arith}
-use native.Mathlib.Numerals.{add-one}
-use lib.ListN.{length, get_or, take}
+use Rattle.std.specs.Prelude.{ℕ, zero, suc, ◌+◌, ◌<◌, max, ◌≡◌, List, [], ◌∷◌, length, get_or, take}
+use Rattle.std.proofs.Common.{arith, add-one}
 use Rattle.rules.specs.DrawingFile.{highest}
 
 highest-suc : (ys : List ℕ) (i : ℕ) → i < length ys → highest (take (suc i) ys) ≡ max (highest (take i ys)) (get_or ys i 0)

@@ -6,6 +6,9 @@ use Rattle.rules.specs.Refusals.{Result, good, refuse_if, ◌>>◌}
 use Rattle.rules.specs.Points.{Drawing as Plan}
 use Rattle.rules.specs.OrderFile.{write_order}
 use Rattle.store_tables.specs.declared.Drawing.{Drawing}
+use Rattle.store_links.specs.declared.Counts.{Counts}
+use Rattle.store_links.specs.Arrays.{Arrays}
+use Rattle.store_laws.specs.Adding.{Holds}
 use Rattle.store_laws.specs.Stored.{Is}
 use Rattle.exchange.specs.Built.{Reached, Whole}
 use Rattle.write_files.specs.Outputs.{Ended}
@@ -16,13 +19,13 @@ whole_order d = do
   refuse_if (ltb d.k d.n) Unfinished 0
   good (write_order d)
 
-module _ {q : Plan} {d : Drawing} (t : Is q d) where
+module _ {q : Plan} {a : Arrays} {c : Counts} (t : Holds q a c) where
   -- the file
-  pub late : {A : Type 0} (wanted : Result A) → d.counts.n ≤ d.counts.k → (refuse_if (ltb q.k q.n) Unfinished 0 >> wanted) ≡ wanted
+  pub late : {A : Type 0} (wanted : Result A) → c.n ≤ c.k → (refuse_if (ltb q.k q.n) Unfinished 0 >> wanted) ≡ wanted
   late wanted h = rw (le-ltb q.k q.n (omega (arith, t.stores.k, t.stores.n)))
 
   -- with all its points it is whole
-  pub whole_late : Reached q → d.counts.n ≤ d.counts.k → Whole q
+  pub whole_late : Reached q → c.n ≤ c.k → Whole q
   whole_late r h = record { reached = r; full = omega (arith, t.stores.k, t.stores.n, t.standing.ranged.room) }
 
 -- d is a drawing that calls or a file reached, stored

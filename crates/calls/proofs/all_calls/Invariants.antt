@@ -1,6 +1,5 @@
 -- `all_calls` meets its contract: the loop keeps `Going`, and each turn is its `turn`.
-use Prim.Native.Nat.{◌-◌}
-use lib.ListN.{length}
+use Rattle.std.specs.Prelude.{◌-◌, length}
 use Rattle.calls.proofs.Going.{Going}
 use Rattle.calls.proofs.all_calls.Given as goal
 

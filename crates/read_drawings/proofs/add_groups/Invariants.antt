@@ -1,7 +1,5 @@
 -- `add_groups` meets its contract. The loop's invariant: from the plan that is stored, the rest of the groups gives the whole result.
-use Prim.Native.Nat.{◌-◌}
-use mathlib.Core.Path.{◌≡◌}
-use lib.ListN.{length}
+use Rattle.std.specs.Prelude.{◌-◌, ◌≡◌, length}
 use Rattle.rules.specs.Points.{Drawing as Plan}
 use Rattle.store_laws.specs.Stored.{Is}
 use Rattle.read_drawings.specs.Contracted.{rest_groups}

@@ -30,7 +30,7 @@ returns c =
     let s = c.from-s.ensures ∙ c.word_at-2.ensures in
     let y = c.moved_to-second.ensures in
     let z = c.moved_to-third.ensures in
-    all_read c.requires.0 _ _ n s c.open_in.ensures.1
+    all_read c.requires.0 _ _ n s c.open_in.new.d c.open_in.ensures.1
     (opened_holds c.requires.0 _ _ n s _ c.line_size-size.ensures.value _ _ _ _
     c.entry_at-a.ensures (rw (y.same_file, y.place) at c.entry_at-b.ensures) (rw (z.same_file, z.place, y.place) at c.entry_at-c.ensures) c.open_in.ensures)
     c.add_groups.ensures

@@ -1,6 +1,5 @@
 -- `read_rest` meets its contract: each way out of a turn, and the end.
-use Rattle.std.proofs.Common.{◌+◌, ◌-◌, arith}
-use borrow.Author.Rules.{rules}
+use Rattle.std.proofs.Common.{◌+◌, ◌-◌, arith, rules}
 use Rattle.rules.specs.Results.{handed_on}
 use Rattle.read_orders.proofs.Turns.{turn_next, turn-refused, turn_end}
 use Rattle.read_orders.proofs.read_rest.Goals as goal

@@ -1,5 +1,5 @@
 -- `push_lines` meets its contract: after i turns the lines of the entries 0 to i - 1 are there.
-use mathlib.Core.Path.{◌≡◌}
+use Rattle.std.specs.Prelude.{◌≡◌}
 use Rattle.store_links.specs.Storing.{filled, new_line}
 use Rattle.store_calls.proofs.push_lines.Given as goal
 

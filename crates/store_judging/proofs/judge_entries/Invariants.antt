@@ -1,7 +1,5 @@
 -- `store_judging::judge_entries` meets its contract. The loop's invariant: the answer is that of the entries from i on.
-use Prim.Native.Nat.{◌≤◌}
-use mathlib.Core.Path.{◌≡◌}
-use lib.ListN.{length, drop}
+use Rattle.std.specs.Prelude.{◌≤◌, ◌≡◌, length, drop}
 use Rattle.store_links.specs.Judging.{entries_pass}
 use Rattle.store_tables.specs.Tables.{arrays_in}
 use Rattle.store_judging.proofs.judge_entries.Given as goal

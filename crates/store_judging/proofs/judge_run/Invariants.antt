@@ -1,7 +1,5 @@
 -- `store_judging::judge_run` meets its contract. The loop's invariant: the answer is that of the links from entry i on.
-use Prim.Native.Nat.{◌-◌, ◌≤◌}
-use mathlib.Core.Path.{◌≡◌}
-use lib.ListN.{drop}
+use Rattle.std.specs.Prelude.{◌-◌, ◌≤◌, ◌≡◌, drop}
 use Rattle.store_links.specs.Judging.{links_pass, run_passes}
 use Rattle.store_links.specs.Placing.{entry_point}
 use Rattle.store_tables.specs.Tables.{arrays_in}

@@ -1,6 +1,5 @@
 -- `store_placing::all_reach`: after i entries, `a` is the place of entry i, and the definition goes on behind it.
-use mathlib.Core.Path.{◌≡◌}
-use Prim.Native.Nat.{suc, ◌≤◌, ◌+◌, ◌*◌, ◌-◌}
+use Rattle.std.specs.Prelude.{suc, ◌+◌, ◌-◌, ◌*◌, ◌≤◌, ◌≡◌}
 use Rattle.store_links.specs.Placing.{way, all_reach_from, inner_count}
 use Rattle.store_tables.specs.Tables.{arrays_in}
 use Rattle.store_placing.proofs.all_reach.Given as goal

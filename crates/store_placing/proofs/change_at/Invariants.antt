@@ -1,6 +1,5 @@
 -- `store_placing::change_at`: after the entries passed, `a` is the place of the last of them, and the definition goes on behind it.
-use mathlib.Core.Path.{◌≡◌}
-use Prim.Native.Nat.{suc, ◌≤◌, ◌+◌, ◌*◌, ◌-◌}
+use Rattle.std.specs.Prelude.{suc, ◌+◌, ◌-◌, ◌*◌, ◌≤◌, ◌≡◌}
 use Rattle.store_links.specs.Placing.{way, change_from, inner_count}
 use Rattle.store_tables.specs.Tables.{arrays_in}
 use Rattle.store_placing.proofs.change_at.Given as goal

@@ -1,6 +1,5 @@
 -- `store_placing::way_over`: after i turns `far` is the way to entry i.
-use mathlib.Core.Path.{◌≡◌}
-use Prim.Native.Nat.{◌≤◌, ◌*◌}
+use Rattle.std.specs.Prelude.{◌*◌, ◌≤◌, ◌≡◌}
 use Rattle.store_links.specs.Placing.{way}
 use Rattle.store_tables.specs.Tables.{arrays_in}
 use Rattle.store_placing.proofs.way_over.Given as goal

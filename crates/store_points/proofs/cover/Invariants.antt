@@ -1,5 +1,5 @@
 -- `store_points::cover` meets its contract: after i turns the entries 1 to i are covered.
-use mathlib.Core.Path.{◌≡◌}
+use Rattle.std.specs.Prelude.{◌≡◌}
 use Rattle.store_links.specs.Placing.{way}
 use Rattle.store_tables.specs.Tables.{arrays_in}
 use Rattle.store_points.specs.Stages.{covered}

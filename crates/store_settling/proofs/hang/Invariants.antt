@@ -1,7 +1,5 @@
 -- `hang` meets its contract: what is left to do with the x of now gives what all gives with the x at entry.
-use mathlib.Core.Path.{◌≡◌}
-use Prim.Native.Nat.{◌≤◌}
-use lib.ListN.{length}
+use Rattle.std.specs.Prelude.{◌≤◌, ◌≡◌, length}
 use Rattle.store_tables.specs.Tables.{arrays_in}
 use Rattle.store_settling.specs.Hang.{hung, Hangs}
 use Rattle.store_settling.proofs.hang.Given as goal

@@ -1,7 +1,5 @@
 -- `walk` meets its contract: what is left to walk with the x of now gives what all gives with the x at entry.
-use mathlib.Core.Path.{◌≡◌}
-use Prim.Native.Nat.{◌-◌}
-use lib.ListN.{length, get_or}
+use Rattle.std.specs.Prelude.{◌-◌, ◌≡◌, length, get_or}
 use Rattle.store_tables.specs.Tables.{arrays_in}
 use Rattle.store_settling.specs.Walk.{walked, Walks}
 use Rattle.store_settling.proofs.walk.Given as goal

@@ -1,6 +1,5 @@
 -- `largest`: `top` is the largest height of the points before this one.
-use mathlib.Core.Path.{◌≡◌}
-use lib.ListN.{take}
+use Rattle.std.specs.Prelude.{◌≡◌, take}
 use Rattle.rules.specs.DrawingFile.{highest}
 use Rattle.store_tables.specs.Tables.{ys}
 use Rattle.write_drawings.proofs.largest.Given as goal
