@@ -13,7 +13,7 @@ use pages::Page;
 use printing_line::put_decimal;
 use tool::Move;
 
-// How many eighths of a millimetre x is, if that is a whole number below 2 ^ 24; some such number for any other x.
+// How many eighths of a millimetre x is, if that is a whole number below 2 ^ 24; some such number for any other x. An Option would be no plainer: a tool's moves are all such numbers, and for None there would be nothing to print.
 fn eighths(x: f32) -> u64
     ensures { Eighths x result }
 {

@@ -7,7 +7,7 @@ ghost use Rattle.printing_words.specs.Numbers.{word_value, ToolNumber, SameTool}
 
 use tool::Tool;
 
-// The number of a word of one to eight decimal digits.
+// The number of a word of one to eight decimal digits. `parse` would be no plainer: it takes a sign too.
 fn word_number(word: &[u8]) -> Option<u32>
     ensures { result ≡ word_value word.now }
 {
@@ -22,7 +22,7 @@ fn word_number(word: &[u8]) -> Option<u32>
     Some(v)
 }
 
-// The number of a word as a tool has it: an f32 that is in a tool's range exactly if the number is, and then the same.
+// The number of a word as a tool has it: an f32 that is in a tool's range exactly if the number is, and then the same. It is 0 for none, as by the rules' `word_number`: a tool of 0 is refused.
 fn tool_number(word: &[u8]) -> f32
     ensures { ToolNumber (word_number word.now) result }
 {

@@ -83,13 +83,13 @@ pub fn read_head(f: &[u8]) -> Answer<Head>
     read_scale(f, usize::from(n))
 }
 
-// Whether one of the `count` entries at `from` is marked both guide and feeder.
-fn any_both(f: &[u8], from: usize, count: usize) -> bool
-    requires { from + 2 * count ≤ length f.now }
-    ensures { result ≡ any_of is_both (map read_entry (words_in count (drop from f.now))) }
+// Whether one of the `count` entries at the cursor is marked both guide and feeder.
+fn any_both(entries: &Cursor, count: usize) -> bool
+    requires { entries.now.at + 2 * count ≤ length entries.now.file.now }
+    ensures { result ≡ any_of is_both (map read_entry (words_in count (drop entries.now.at entries.now.file.now))) }
 {
     for i in 0..count {
-        if is_both(word_at(f, from + 2 * i)) {
+        if is_both(word_at(entries.file, entries.at + 2 * i)) {
             return true;
         }
     }
@@ -102,7 +102,7 @@ fn read_third(here: &Cursor, a: u16) -> Answer<Start>
     ensures { StartRead here.now.file.now (third_from (entry_of a ∷ []) (cursor here.now.file.now here.now.at)) result }
 {
     let entries = here.entries()?;
-    if any_both(here.file, entries.from, entries.count) {
+    if any_both(&here.moved_to(entries.from), entries.count) {
         return Err(Refusal::BothMarks.at(here.at));
     }
     if entries.count != 2 {
@@ -129,7 +129,7 @@ fn read_second(here: &Cursor) -> Answer<Start>
     ensures { StartRead here.now.file.now (second_from (cursor here.now.file.now here.now.at)) result }
 {
     let entries = here.entries()?;
-    if any_both(here.file, entries.from, entries.count) {
+    if any_both(&here.moved_to(entries.from), entries.count) {
         return Err(Refusal::BothMarks.at(here.at));
     }
     if entries.count != 1 {

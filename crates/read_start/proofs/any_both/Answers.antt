@@ -30,10 +30,10 @@ module _ (f : List ℕ) (from count : ℕ) (room : from + 2 * count ≤ length f
   over h = so_far ∙ ap some (drop_of_length-le words {i = i} (rw (words_count f from count room) h))
 
 pub returns-then-is_both : goal.returns-then-is_both
-returns-then-is_both c = sym (turn c.args.f.now _ _ c.requires _ c.loop-i.invariant c.loop-i-test.true _ c.word_at.ensures _ c.if-is_both.ensures)
+returns-then-is_both c = sym (turn c.args.entries.now.file.now _ _ c.requires _ c.loop-i.invariant c.loop-i-test.true _ c.word_at.ensures _ c.if-is_both.ensures)
 
 pub loop-i-preserved : goal.loop-i-preserved
-loop-i-preserved c = turn c.args.f.now _ _ c.requires _ c.loop-i.invariant c.loop-i-test.true _ c.word_at.ensures _ c.if-is_both.ensures
+loop-i-preserved c = turn c.args.entries.now.file.now _ _ c.requires _ c.loop-i.invariant c.loop-i-test.true _ c.word_at.ensures _ c.if-is_both.ensures
 
 pub returns : goal.returns
-returns c = sym (over c.args.f.now _ _ c.requires _ c.loop-i.invariant c.loop-i-test.false)
+returns c = sym (over c.args.entries.now.file.now _ _ c.requires _ c.loop-i.invariant c.loop-i-test.false)

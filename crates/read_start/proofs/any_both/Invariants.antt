@@ -6,4 +6,4 @@ use Rattle.rules.specs.Records.{words_in}
 use Rattle.read_start.proofs.any_both.Given as goal
 
 abbrev pub invariant-loop-i : goal.invariant-loop-i
-invariant-loop-i l = any_of is_both (map read_entry (words_in l.count (drop l.from l.f))) ≡ any_of is_both (map read_entry (drop l.i (words_in l.count (drop l.from l.f))))
+invariant-loop-i l = any_of is_both (map read_entry (words_in l.count (drop l.entries.at l.entries.file.now))) ≡ any_of is_both (map read_entry (drop l.i (words_in l.count (drop l.entries.at l.entries.file.now))))
