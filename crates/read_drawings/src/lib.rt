@@ -1,8 +1,8 @@
 // A drawing file's records, read into the lent drawing. Comparing its bytes with the drawing's, 11, is left to the caller.
-// For `panel`: it asks for a blank drawing, which is lent, so that no call has two on its stack (fixed memory).
+// For `panel`: it asks for a blank drawing, which is lent, so that no call through C has two on its stack (fixed memory).
 #![tactic(auto)]
 
-ghost use Rattle.std.specs.Prelude.{◌≡◌, length};
+ghost use Rattle.std.specs.Prelude.{◌≡◌};
 ghost use Rattle.store_tables.specs.Tables.{blank};
 ghost use Rattle.read_drawings.specs.Whole.{Passes};
 ghost use Rattle.read_drawings.specs.Contracted.{Groups, Grouped, AllGrouped, LinesRead};
@@ -21,9 +21,9 @@ fn add_group(
     style: Style,
     total: usize,
     d: &mut Drawing,
-    e: &mut [u16],
+    e: &mut [u16; LINES],
 ) -> Answer<()>
-    requires { Groups style lines.now.file.now lines.now.at total d.old × (length e.old ≡ 3072) }
+    requires { Groups style lines.now.file.now lines.now.at total d.old }
     ensures { Grouped style lines.now.file.now lines.now.at total d.old d.new result }
 {
     let had = d.counts.lines;
@@ -35,14 +35,13 @@ fn add_group(
     }
 }
 
-// Adds the groups of all points that are left, one after another.
-// How many points there are comes from the calls, so a `for` over them is no plainer than this `while`.
+// Adds the groups of all points that are left, one after another. Their entries lie in a fixed array, since the project has no heap.
 fn add_groups(lines: &Cursor, style: Style, total: usize, d: &mut Drawing) -> Answer<()>
     requires { Groups style lines.now.file.now lines.now.at total d.old }
     ensures { AllGrouped style lines.now.file.now lines.now.at total d.old d.new result }
 {
     let mut e = [0u16; LINES];
-    while d.counts.k < d.counts.n {
+    for _point in d.counts.k..d.counts.n {
         add_group(lines, style, total, d, &mut e)?;
     }
     Ok(())
