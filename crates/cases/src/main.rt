@@ -23,7 +23,7 @@ fn fail<V: Write>(name: &[u8], error: io::Error, errors: &mut V) {
     let _ = writeln!(errors, ": {error}");
 }
 
-// What a case's program makes of its file.
+// What a case's program makes of its file. A table of closures would be no plainer than this match: nothing hands one on, and each arm is another call.
 fn work<F: Read, W: Write>(name: &[u8], from: &mut F, to: &mut W) -> Result<(), FileError> {
     match name.first() {
         Some(b's') => files::draw(Style::Straight, from, to),
@@ -50,13 +50,11 @@ fn run<R: Files, W: Write, V: Write>(rt: &R, name: &[u8], to: &mut W, errors: &m
 }
 
 // Every case that a line names.
-// The lines are cut off one by one: a `for` over the library's `split` is refused in a generic function.
 fn run_all<R: Files, W: Write, V: Write>(rt: &R, text: &[u8], to: &mut W, errors: &mut V) {
-    let mut rest = text;
-    while !rest.is_empty() {
-        let end = rest.iter().position(|&b| b == b'\n').unwrap_or(rest.len());
-        run(rt, &rest[..end], to, errors);
-        rest = &rest[rest.len().min(end + 1)..];
+    for name in text.split(|&b| b == b'\n') {
+        if !name.is_empty() {
+            run(rt, name, to, errors);
+        }
     }
 }
 

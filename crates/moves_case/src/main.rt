@@ -11,31 +11,28 @@ use std::io;
 use std::io::Write;
 use tool::{Move, Tool};
 
-// A number behind a space, in eighths; the fraction, if there were one, is dropped.
-fn print_number<W: Write>(to: &mut W, x: f32) -> io::Result<()> {
-    let n = tool::whole_part(x * 8.0);
-    write!(to, " {n}")
+// A number in eighths; the fraction, if there were one, is dropped.
+fn eighths(x: f32) -> u64 {
+    tool::whole_part(x * 8.0)
 }
 
 fn print_move<W: Write>(to: &mut W, m: Move) -> io::Result<()> {
     match m {
         Move::Travel(x, y) => {
-            write!(to, "travel")?;
-            print_number(to, x)?;
-            print_number(to, y)
+            let (a, b) = (eighths(x), eighths(y));
+            write!(to, "travel {a} {b}")
         }
         Move::Plunge(z) => {
-            let n = tool::whole_part(-z * 8.0);
-            write!(to, "plunge -{n}")
+            let a = eighths(-z);
+            write!(to, "plunge -{a}")
         }
         Move::Cut(x, y) => {
-            write!(to, "cut")?;
-            print_number(to, x)?;
-            print_number(to, y)
+            let (a, b) = (eighths(x), eighths(y));
+            write!(to, "cut {a} {b}")
         }
         Move::Lift(z) => {
-            write!(to, "lift")?;
-            print_number(to, z)
+            let a = eighths(z);
+            write!(to, "lift {a}")
         }
     }
 }

@@ -22,14 +22,14 @@ use rules::{Answer, Style};
 use store_tables::Drawing;
 use tool::Tool;
 
-// Where a drawing comes from. What it answers on the way goes into `answers`; and it says which buffer of its own it can find too short.
+// Where a drawing comes from. What it answers on the way goes into `answers`; and it says which buffer of its own it can find too short, if any.
 // `answers` stays a parameter: as a field of `Calls` the exported functions had no proof of what the buffer holds after the call.
 pub trait Source: Drop {
     ghost gives: { Style → Self → List ℕ → List ℕ → ResultOf Plan → Type 0 };
 
     ghost short: { ℕ };
 
-    fn short(&self) -> Buffer
+    fn short(&self) -> Option<Buffer>
         ensures { buffer_number result ≡ short };
 
     fn draw_in(&self, style: Style, d: &mut Drawing, answers: &mut [u16]) -> Answer<()>
@@ -47,8 +47,8 @@ impl Source for OrderFile<'_> {
 
     ghost short = { no_buffer };
 
-    fn short(&self) -> Buffer {
-        Buffer::None
+    fn short(&self) -> Option<Buffer> {
+        None
     }
 
     fn draw_in(&self, style: Style, d: &mut Drawing, _answers: &mut [u16]) -> Answer<()> {
@@ -68,8 +68,8 @@ impl Source for Calls<'_> {
 
     ghost short = { answers_buffer };
 
-    fn short(&self) -> Buffer {
-        Buffer::Answers
+    fn short(&self) -> Option<Buffer> {
+        Some(Buffer::Answers)
     }
 
     fn draw_in(&self, style: Style, d: &mut Drawing, answers: &mut [u16]) -> Answer<()> {
@@ -82,7 +82,7 @@ pub fn draw(style: Style, order: &[u8], out: &mut [u8], refusal: &mut [u64; 3]) 
     ensures { Exported output_buffer out.old (draw_file style order.now) out.new result refusal.new }
 {
     let written = panel::draw(style, order, out);
-    panel_told::tell_written(written, Buffer::Output, refusal)
+    panel_told::tell_written(written, Some(Buffer::Output), refusal)
 }
 
 // Reads a drawing file: the number of bytes of its order file.
@@ -90,7 +90,7 @@ pub fn undraw(style: Style, drawing: &[u8], out: &mut [u8], refusal: &mut [u64; 
     ensures { Exported output_buffer out.old (order_back style drawing.now) out.new result refusal.new }
 {
     let written = panel::undraw(style, drawing, out);
-    panel_told::tell_written(written, Buffer::Output, refusal)
+    panel_told::tell_written(written, Some(Buffer::Output), refusal)
 }
 
 // The drawing file of what a source gives: the number of bytes written.
@@ -107,7 +107,7 @@ pub fn file<S: Source>(
     match source.draw_in(style, &mut d, answers) {
         Ok(()) => {
             let written = write_files::drawing_file(out, &d);
-            panel_told::tell_written(written, Buffer::Output, refusal)
+            panel_told::tell_written(written, Some(Buffer::Output), refusal)
         }
         Err(refused) => panel_told::tell_written(Err(refused), source.short(), refusal),
     }

@@ -21,10 +21,10 @@ pub trait ForC<A, const N: usize> {
         ensures words { words.new ≡ words_in words.old (given self) };
 }
 
-// An answer: the number and the words of its value, or the three words of its refusal. The call could find `buffer` too short.
+// An answer: the number and the words of its value, or the three words of its refusal. The call could find `buffer` too short, if there is one.
 pub fn tell<A, const N: usize, T: ForC<A, N>>(
     answer: Answer<T>,
-    buffer: Buffer,
+    buffer: Option<Buffer>,
     words: &mut [A; N],
     refusal: &mut [u64; 3],
 ) -> u64
@@ -74,7 +74,7 @@ fn line_words(l: Line, x: u64, y: u64) -> [u64; 7]
     [later, earlier, bent, port, x, y, field]
 }
 
-// A line: 1, and those words. For drawings with bends; a straight line has no place for one, and is told without it.
+// A line: 1, and those words. For drawings with bends; a straight line has no place for one, and is told without it. Here x and y are 0 for none: the C interface has no Option.
 impl ForC<u64, 7> for LineSeen {
     ghost given = { seen_words };
 
@@ -137,21 +137,21 @@ impl ForC<u64, 0> for usize {
 }
 
 // The number of bytes written.
-pub fn tell_written(written: Answer<usize>, buffer: Buffer, refusal: &mut [u64; 3]) -> u64
+pub fn tell_written(written: Answer<usize>, buffer: Option<Buffer>, refusal: &mut [u64; 3]) -> u64
     ensures { (result ≡ code_of (file_given written)) × (refusal.new ≡ refusal_of (buffer_number buffer) (file_given written)) }
 {
     tell(written, buffer, &mut [], refusal)
 }
 
 // All moves: how many there are. 24 tells which of their two buffers is short; with another refusal 24 is of `buffer`.
-pub fn tell_listed(listed: Result<usize, NotListed>, buffer: Buffer, refusal: &mut [u64; 3]) -> u64
+pub fn tell_listed(listed: Result<usize, NotListed>, buffer: Option<Buffer>, refusal: &mut [u64; 3]) -> u64
     ensures { (result ≡ code_of (list_given listed)) × (refusal.new ≡ refusal_of (short_for (buffer_number buffer) listed) (list_given listed)) }
 {
     let short = Refusal::OutputShort.at(0);
     match listed {
         Ok(count) => tell_written(Ok(count), buffer, refusal),
-        Err(NotListed::KindsShort) => tell_written(Err(short), Buffer::Output, refusal),
-        Err(NotListed::NumbersShort) => tell_written(Err(short), Buffer::Numbers, refusal),
+        Err(NotListed::KindsShort) => tell_written(Err(short), Some(Buffer::Output), refusal),
+        Err(NotListed::NumbersShort) => tell_written(Err(short), Some(Buffer::Numbers), refusal),
         Err(NotListed::Refused(refused)) => tell_written(Err(refused), buffer, refusal),
     }
 }
@@ -162,9 +162,9 @@ pub fn tell_imported(imported: Result<Sizes, NotImported>, refusal: &mut [u64; 3
 {
     let short = Refusal::OutputShort.at(0);
     match imported {
-        Ok(sizes) => tell_written(Ok(sizes.order), Buffer::None, refusal),
-        Err(NotImported::OrderShort) => tell_written(Err(short), Buffer::Output, refusal),
-        Err(NotImported::ListShort) => tell_written(Err(short), Buffer::Vertices, refusal),
-        Err(NotImported::Refused(refused)) => tell_written(Err(refused), Buffer::None, refusal),
+        Ok(sizes) => tell_written(Ok(sizes.order), None, refusal),
+        Err(NotImported::OrderShort) => tell_written(Err(short), Some(Buffer::Output), refusal),
+        Err(NotImported::ListShort) => tell_written(Err(short), Some(Buffer::Vertices), refusal),
+        Err(NotImported::Refused(refused)) => tell_written(Err(refused), None, refusal),
     }
 }

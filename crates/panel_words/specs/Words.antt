@@ -1,12 +1,12 @@
 -- Parts of what C is told as words: which buffer was short, the three words of a refusal, a bend's kind and its port's index.
-use Rattle.std.specs.Prelude.{ℕ, List, [], ◌∷◌, eqb, if◌then◌else◌}
+use Rattle.std.specs.Prelude.{ℕ, List, [], ◌∷◌, Option, Some, None, eqb, if◌then◌else◌}
 use Rattle.rules.specs.declared.Bend.{Bend}
 use Rattle.rules.specs.declared.Bend.TheVariants.{Left, Right, Middle, NoBend}
 use Rattle.rules.specs.declared.Refusal.{Refusal}
 use Rattle.rules.specs.declared.Refusal.TheVariants.{OutputShort}
 use Rattle.rules.specs.Refusals.{number}
 use Rattle.panel_words.specs.declared.Buffer.{Buffer}
-use Rattle.panel_words.specs.declared.Buffer.TheVariants.{None, Output, Answers, Numbers, Vertices}
+use Rattle.panel_words.specs.declared.Buffer.TheVariants.{Output, Answers, Numbers, Vertices}
 
 -- the buffer that a call can find too short
 abbrev pub no_buffer : ℕ
@@ -25,12 +25,16 @@ abbrev pub vertices_buffer : ℕ
 vertices_buffer = 4
 
 -- the number by which C knows a buffer
-abbrev pub buffer_number : Buffer → ℕ
+abbrev pub number_of : Buffer → ℕ
+number_of Output = output_buffer
+number_of Answers = answers_buffer
+number_of Numbers = numbers_buffer
+number_of Vertices = vertices_buffer
+
+-- and what it is told where there may be none
+abbrev pub buffer_number : Option Buffer → ℕ
 buffer_number None = no_buffer
-buffer_number Output = output_buffer
-buffer_number Answers = answers_buffer
-buffer_number Numbers = numbers_buffer
-buffer_number Vertices = vertices_buffer
+buffer_number (Some b) = number_of b
 
 -- which buffer was short: 0 unless the number is that of "24 output too short"
 abbrev pub short_of : ℕ → Refusal → ℕ

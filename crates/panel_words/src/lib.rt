@@ -2,14 +2,13 @@
 #![tactic(auto)]
 
 ghost use Rattle.std.specs.Prelude.{◌≡◌};
-ghost use Rattle.panel_words.specs.Words.{buffer_number, refusal_words, bend_kind, port_of};
+ghost use Rattle.panel_words.specs.Words.{number_of, buffer_number, refusal_words, bend_kind, port_of};
 
 use rules::{Bend, Refusal, Refused};
 
-// The buffer that a call can find too short, if any.
+// A buffer that a call can find too short.
 #[derive(Clone, Copy, Debug, PartialEq, Eq)]
 pub enum Buffer {
-    None,
     Output,
     Answers,
     Numbers,
@@ -18,11 +17,10 @@ pub enum Buffer {
 
 // A number stays for each buffer: the C interface has no enum there.
 impl From<Buffer> for u64 {
-    ghost from_gives = { λ b n. n ≡ buffer_number b };
+    ghost from_gives = { λ b n. n ≡ number_of b };
 
     fn from(buffer: Buffer) -> u64 {
         match buffer {
-            Buffer::None => 0,
             Buffer::Output => 1,
             Buffer::Answers => 2,
             Buffer::Numbers => 3,
@@ -31,17 +29,17 @@ impl From<Buffer> for u64 {
     }
 }
 
-// The three words of a refusal: number, place, and which buffer was short, 0 unless the refusal is 24.
-pub fn refusal_words(refused: Refused, buffer: Buffer) -> [u64; 3]
+// The three words of a refusal: number, place, and which buffer was short, 0 unless the refusal is 24 of a buffer.
+pub fn refusal_words(refused: Refused, buffer: Option<Buffer>) -> [u64; 3]
     ensures { result ≡ refusal_words (buffer_number buffer) refused.refusal refused.place }
 {
     let number = u64::from(u16::from(refused.refusal));
     let place = refused.place as u64;
     let short = match refused.refusal {
         Refusal::OutputShort => buffer,
-        _ => Buffer::None,
+        _ => None,
     };
-    [number, place, u64::from(short)]
+    [number, place, short.map_or(0, u64::from)]
 }
 
 // The kind of a bend: 0 straight, 1 at a left port, 2 at a right port, 3 at a middle port. They stay numbers: the C interface has no enum there.
@@ -56,7 +54,7 @@ pub fn bend_kind(b: Bend) -> u64
     }
 }
 
-// The index of its port, 0 for straight.
+// The index of its port, 0 for straight. It stays 0: the C interface has no Option.
 pub fn port_of(b: Bend) -> u64
     ensures { result ≡ port_of b }
 {
