@@ -76,7 +76,7 @@ pub fn print<W: Write>(to: &mut W, bytes: &[u8]) -> Result<(), FileError>
 }
 
 // The drawing program of a style, from a file that is open to a writer.
-// Each program reads, fills a page and prints in these five lines: one function for all, generic over a closure that fills, was tried, and its proof didn't close where the closure keeps the style.
+// Each program reads, fills a page and prints in these five lines: one function for all, generic over a closure that fills, was tried, and its proof didn't close where the closure keeps the style. A trait would be no plainer: an impl for each program would be as long as these functions.
 pub fn draw<R: Read, W: Write>(style: Style, from: &mut R, to: &mut W) -> Result<(), FileError>
     ensures { OnOk result (IfSome (R.remaining from.old) (λ file. Appends (W.contents to.old) (W.contents to.new) (program style file))) }
 {

@@ -13,6 +13,7 @@ use std::io::{Read, Write};
 const LINES: usize = 4 * MOST_VERTICES + 20;
 
 // The import program, from a file that is open to a writer.
+// It and the next stand in the five lines of the programs in `files`, for the reason given there.
 pub fn import<R: Read, W: Write>(from: &mut R, to: &mut W) -> Result<(), FileError>
     ensures { OnOk result (IfSome (R.remaining from.old) (λ file. Appends (W.contents to.old) (W.contents to.new) (import_program file))) }
 {

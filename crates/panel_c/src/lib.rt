@@ -1,4 +1,5 @@
 // What C and Rust call: numbers, slices and arrays only, and no `requires`. Each call on drawings is there twice, for those with bends and, named `panel_straight_..`, for straight ones.
+// C has no generics and none of our structs: so each call has a name for each style, a tool comes as three numbers, and moves go into two slices.
 // Each call puts three words of a refusal into `refusal`: its number, its place, and at 24 which buffer was short, 1 the output (of moves: the kinds), 2 the answers, 3 the numbers of moves or 4 the list of vertices; all 0 for none.
 #![tactic(auto)]
 

@@ -131,6 +131,7 @@ pub fn ask<A, const N: usize, Q: Question<A, N>, S: Source>(
 }
 
 // All moves of the drawing that a source gives, in their order: how many there are.
+// Two buffers and no MoveLists, as `panel_asked::moves_from` says.
 pub fn moves<S: Source>(
     style: Style,
     source: S,

@@ -15,6 +15,7 @@ use store_tables::Drawing;
 use tool::Tool;
 
 // The page begins with the moves of an order file's drawing for this tool, or with the line of the refusal. Returns how many bytes that is.
+// Two buffers and no MoveLists: the call that lists the moves and the one that prints them would each take it apart.
 fn tool_page(
     style: Style,
     order: &[u8],
