@@ -46,7 +46,8 @@ fn draw_calls(d: &mut Drawing, style: Style, n: usize, calls: &[u16], answers: &
 }
 
 // Makes the calls that the words hold on a drawing of this style opened for n points; each answer takes two words of the buffer.
-// For `panel_c`: it asks for a blank drawing, and leaves it so where it refuses. It is lent, so that no call has two on its stack (fixed memory).
+// For `panel_c`: it asks for a blank drawing, and leaves it so where it refuses. It is lent, so that no call through C has two on its stack (fixed memory).
+// No struct of style, n, calls and answers: `run` takes them by name, and each is handed on once.
 pub fn run_in(
     d: &mut Drawing,
     style: Style,

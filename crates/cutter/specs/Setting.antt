@@ -12,6 +12,11 @@ use Rattle.tool.specs.declared.Tool.{Tool}
 use Rattle.tool.specs.Checking.{whole_tool, tool_of}
 use Rattle.cutter_lines.specs.declared.Setting.{Setting}
 
+-- all points are there, or the refusal while they aren't
+abbrev pub Finishes : Counts → Answer (Unit {0}) → Type 0
+Finishes c (Ok t) = c.n ≤ c.k
+Finishes c (Err e) = (c.k < c.n) × (e ≡ refusal_at Unfinished 0)
+
 -- the drawing is finished, the tool is one, and these are their scale and numbers
 pub record IsSet (c : Counts) (t : Tool) (by : Setting) : Type 0 where
   pub is : is_tool (whole_tool t) ≡ true

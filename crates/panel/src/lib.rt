@@ -55,7 +55,7 @@ pub fn draw(style: Style, order: &[u8], out: &mut [u8]) -> Answer<usize>
     write_files::put_drawing(out, &d)
 }
 
-// Compares a file with the drawing file of the finished drawing.
+// Compares a file with the drawing file of the finished drawing. That lies in a fixed array, since the project has no heap.
 fn compare_drawing(file: &[u8], d: &Drawing) -> Answer<()>
     requires { Ended d.now }
     ensures { (q : Plan) → Whole q → Is q d.now → result ≡ answer (compare_bytes 0 file.now (drawing_bytes q)) }

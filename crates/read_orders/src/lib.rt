@@ -1,8 +1,8 @@
 // Reads an order file into the lent drawing, record by record; the first refusal is the answer.
-// For `panel`: it asks for a blank drawing, which is lent, so that no call has two on its stack (fixed memory).
+// For `panel`: it asks for a blank drawing, which is lent, so that no call through C has two on its stack (fixed memory).
 #![tactic(auto)]
 
-ghost use Rattle.std.specs.Prelude.{◌≡◌, length};
+ghost use Rattle.std.specs.Prelude.{◌≡◌};
 ghost use Rattle.rules.specs.OrderFile.{read_points, read_order};
 ghost use Rattle.store_tables.specs.Tables.{blank};
 ghost use Rattle.store_laws.specs.Stored.{Stored};
@@ -15,8 +15,8 @@ use rules::{Answer, Style};
 use store_tables::{Drawing, POINTS};
 
 // One point more: its record, tested and added as a call adds; its refusals stand at its mark. Gives the offset behind the record.
-fn read_point(here: &Cursor, d: &mut Drawing, e: &mut [u16]) -> Answer<usize>
-    requires { Stored d.old × (length e.old ≡ 1024) }
+fn read_point(here: &Cursor, d: &mut Drawing, e: &mut [u16; POINTS]) -> Answer<usize>
+    requires { Stored d.old }
     ensures { PointRead here.now.file.now here.now.at d.old d.new result }
 {
     let record = here.entries()?;
@@ -31,7 +31,7 @@ fn read_point(here: &Cursor, d: &mut Drawing, e: &mut [u16]) -> Answer<usize>
     }
 }
 
-// The records of so many points more, then the end.
+// The records of so many points more, then the end. Their entries lie in a fixed array, since the project has no heap.
 fn read_rest(start: &Cursor, points: usize, d: &mut Drawing) -> Answer<()>
     requires { Stored d.old }
     ensures { RestRead start.now.file.now start.now.at points d.old d.new result }

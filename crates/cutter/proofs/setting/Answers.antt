@@ -1,5 +1,6 @@
 -- `setting` meets its contract: the two refusals in order, and the setting.
 use Rattle.std.proofs.Common.{refl, sym, ◌∙◌}
+use Rattle.rules.specs.Results.{handed_on}
 use Rattle.tool.specs.Laws.{good-tool, bad_tool}
 use Rattle.cutter.specs.Setting.{bad, early, missing}
 use Rattle.cutter.proofs.setting.Goals as goal
@@ -9,8 +10,10 @@ returns-in_err-tool c =
     let none = c.in_err-tool.ensures.ok_part in
     rw (missing c.check_tool.result c.from_residual.result _ c.at.result none c.in_err-tool.ensures.value c.from_residual.ensures.1, c.at.ensures) (bad (bad_tool c.args.t (sym c.check_tool.ensures ∙ none)))
 
-pub returns-then-c : goal.returns-then-c
-returns-then-c c = rw c.at-then-c.ensures (early (good-tool c.args.t _ (sym c.check_tool.ensures ∙ c.in_ok-tool.ensures.ok_part)).0 c.if-c.true)
+pub returns-in_err-finished : goal.returns-in_err-finished
+returns-in_err-finished c =
+    let late = rw c.in_err-finished.was at c.finished.ensures in
+    rw (handed_on c.from_residual-in_err-finished.result _ c.from_residual-in_err-finished.ensures.1, late.1) (early (good-tool c.args.t _ (sym c.check_tool.ensures ∙ c.in_ok-tool.ensures.ok_part)).0 late.0)
 
 pub invariant_of-result-clause-in_range : goal.invariant_of-result-clause-in_range
 invariant_of-result-clause-in_range c = (good-tool c.args.t _ (sym c.check_tool.ensures ∙ c.in_ok-tool.ensures.ok_part)).2
@@ -18,4 +21,4 @@ invariant_of-result-clause-in_range c = (good-tool c.args.t _ (sym c.check_tool.
 pub returns : goal.returns
 returns c =
     let g = good-tool c.args.t _ (sym c.check_tool.ensures ∙ c.in_ok-tool.ensures.ok_part) in
-    record { is = g.0; whole = c.if-c.false; scale = refl; tool = g.1 }
+    record { is = g.0; whole = rw c.in_ok-finished.was at c.finished.ensures; scale = refl; tool = g.1 }
