@@ -19,6 +19,7 @@ pub use store_tables::Drawing;
 use store_tables::POINTS;
 
 // A drawing with the x of every placed point, settled once for many look-ups.
+// That it is stored and settled stands in contracts: a type may not ask more than it did. x isn't a field of a point: adding moves points without telling where to.
 #[derive(Clone, Copy)]
 pub struct Placed {
     pub drawing: Drawing,

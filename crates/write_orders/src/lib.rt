@@ -17,7 +17,7 @@ ghost use Rattle.write_orders.specs.Writing.{word_for, Joinable, points_words, h
 use pages::Page;
 use rules::{ENTRIES_MARK, Entry, Line, NUMBER_SIZE, ORDER_MARK, SCALE_MARK};
 use store_links::Counts;
-use store_tables::Drawing;
+use store_tables::{Drawing, LINES};
 use write_records::{put_end, put_two};
 
 // The number of a line's entry.
@@ -53,8 +53,8 @@ fn put_point(page: &mut Page<'_>, lines: &[Line])
 }
 
 // Puts the records of points 1 to n there in turn, each with those of the first `all` lines that are its own.
-fn put_points(page: &mut Page<'_>, lines: &[Line], n: usize, all: usize)
-    requires { (length lines.now ≡ 3072) × (n ≤ 1024) × (all ≤ 3072) × Joinable lines.now all × HasRoom page.old (2 * length (points_words lines.now all n 1 0)) }
+fn put_points(page: &mut Page<'_>, lines: &[Line; LINES], n: usize, all: usize)
+    requires { (n ≤ 1024) × (all ≤ 3072) × Joinable lines.now all × HasRoom page.old (2 * length (points_words lines.now all n 1 0)) }
     ensures { Grown page.old (bytes_of (points_words lines.now all n 1 0)) page.new }
 {
     let mut from = 0;

@@ -13,7 +13,7 @@ pub put_points-requires : goal.put_points-requires
 put_points-requires c =
     let h = parts c.requires in
     let head = c.put_head.ensures in
-    (omega arith, h.n, h.lines, h.low, omega (arith, h.room, c.new-page.ensures.at, ap length c.new-page.ensures.bytes, (pasted (head_words c.args.d.now.counts.n c.args.d.now.counts.s) head).behind, head.size))
+    (h.n, h.lines, h.low, omega (arith, h.room, c.new-page.ensures.at, ap length c.new-page.ensures.bytes, (pasted (head_words c.args.d.now.counts.n c.args.d.now.counts.s) head).behind, head.size))
 
 pub put_end-requires : goal.put_end-requires
 put_end-requires c =
