@@ -86,7 +86,6 @@ pub fn order_file(out: &mut [u8], d: &Drawing) -> Answer<usize>
     requires { IsReached d.now }
     ensures { (q : Plan) → Reached q → Is q d.now → Wrote out.old (whole_order q) out.new result }
 {
-    let counts = d.counts;
-    finished(counts)?;
+    finished(d.counts)?;
     put_order(out, d)
 }
