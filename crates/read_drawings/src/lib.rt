@@ -16,6 +16,7 @@ use styles::line_size;
 use words::word_at;
 
 // Adds the next point with its group, where `total` lines start at the cursor and the drawing has so many of them. A refusal is at the group's place.
+// A match and not map_err, which would be no plainer: both cases are told apart in the proof all the same.
 fn add_group(
     lines: &Cursor,
     style: Style,

@@ -15,6 +15,7 @@ use rules::{Answer, Style};
 use store_tables::{Drawing, POINTS};
 
 // One point more: its record, tested and added as a call adds; its refusals stand at its mark. Gives the offset behind the record.
+// A match and not map_err, which would be no plainer: both cases are told apart in the proof all the same.
 fn read_point(here: &Cursor, d: &mut Drawing, e: &mut [u16; POINTS]) -> Answer<usize>
     requires { Stored d.old }
     ensures { PointRead here.now.file.now here.now.at d.old d.new result }

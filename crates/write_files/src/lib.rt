@@ -17,7 +17,7 @@ ghost use Rattle.write_files.specs.Finishing.{whole_order, IsReached};
 use rules::{Answer, Refusal, Style};
 use store_links::Counts;
 use store_settling::View;
-use store_tables::{Drawing, POINTS};
+use store_tables::Drawing;
 
 // How many bytes the drawing file of n points has: "42n - 60", or 4 less for each line.
 pub fn drawing_length(style: Style, n: usize) -> usize
@@ -57,8 +57,7 @@ pub fn put_drawing(out: &mut [u8], d: &Drawing) -> Answer<usize>
 {
     let need = drawing_length(d.counts.style, d.counts.n);
     room(out, need)?;
-    let mut x = [0u16; POINTS];
-    store_settling::settle(&mut x, d);
+    let x = store_looking::settled(d);
     write_drawings::write_drawing(out, &View { drawing: d, x: &x });
     Ok(need)
 }

@@ -13,10 +13,10 @@ returns-in_err-room c = λ d w h.
 pub write_drawing-requires : goal.write_drawing-requires
 write_drawing-requires c =
     let room = no_less _ _ _ _ (sym c.room.ensures ∙ c.in_ok-room.was) in
-    writable c.requires c.settle.ensures (omega arith)
+    writable c.requires c.settled-x.ensures (omega arith)
 
 pub returns : goal.returns
 returns c = λ d w h.
     let need = c.drawing_length-need.ensures ∙ need_is w h in
     let room = no_less _ _ _ _ (sym c.room.ensures ∙ c.in_ok-room.was) in
-    full _ _ _ _ (omega arith) need (c.write_drawing.ensures d (finish w h c.settle.ensures))
+    full _ _ _ _ (omega arith) need (c.write_drawing.ensures d (finish w h c.settled-x.ensures))
