@@ -144,7 +144,11 @@ pub fn tell_written(written: Answer<usize>, buffer: Option<Buffer>, refusal: &mu
 }
 
 // All moves: how many there are. 24 tells which of their two buffers is short; with another refusal 24 is of `buffer`.
-pub fn tell_listed(listed: Result<usize, NotListed>, buffer: Option<Buffer>, refusal: &mut [u64; 3]) -> u64
+pub fn tell_listed(
+    listed: Result<usize, NotListed>,
+    buffer: Option<Buffer>,
+    refusal: &mut [u64; 3],
+) -> u64
     ensures { (result ≡ code_of (list_given listed)) × (refusal.new ≡ refusal_of (short_for (buffer_number buffer) listed) (list_given listed)) }
 {
     let short = Refusal::OutputShort.at(0);
