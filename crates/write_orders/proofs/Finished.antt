@@ -15,7 +15,8 @@ use Rattle.rules.specs.Records.{bytes_of, end_mark}
 use Rattle.pages.specs.declared.Page.{Page}
 use Rattle.pages.specs.Pages.{Grown, pasted, page_filled}
 use Rattle.write_orders.specs.Writing.{Joinable, head_words, points_words, order_words, OrderWritable, OrderWritten}
-use Rattle.write_orders.specs.Grouping.{line_kept, order_is}
+use Rattle.store_settling.specs.Lines.{line_is}
+use Rattle.write_orders.specs.Grouping.{order_is}
 
 -- the length of the order file
 length-order : {d : Drawing} {a : Arrays} {c : Counts} → Whole d → Stores d a c → length (write_order d) ≡ 2 * length (order_words a.lines c)
@@ -42,7 +43,7 @@ parts {a = a} {c} h =
       low = λ e b.
           let el : e < length h.d.lines = omega (arith, t.lines) in
           let most : (pred (line_at h.d e).earlier < h.d.k) × (pred (line_at h.d e).later < h.d.k) = standing.sound.core.lines.ends e el in
-          rw (line_kept t e el) (omega (arith, most.0, standing.ranged.room, standing.ranged.high));
+          rw (line_is t e el) (omega (arith, most.0, standing.ranged.room, standing.ranged.high));
       room = omega (arith, h.room, length-order w t, length-append (head_words c.n c.s) (points ++ (end_mark ∷ [])), length-append points (end_mark ∷ []));
     }
 

@@ -4,7 +4,7 @@ use Rattle.std.proofs.Math.Path.{refl, ap, ap₂}
 use Rattle.std.proofs.Common.{sym, ◌∙◌, subst₂, add-zero, zero-add, arith, eq-eqb, ne_eqb, eqb-true}
 use Rattle.std.proofs.Math.Bool.{true, false}
 use Rattle.std.proofs.Math.ListN.{length}
-use Rattle.std.proofs.lemmas.List.{length-map, get_or-take}
+use Rattle.std.proofs.lemmas.List.{length-map}
 use Rattle.std.proofs.Math.Dec.{eqb}
 use Rattle.std.proofs.lemmas.Bool.{eqb-false}
 use Rattle.rules.specs.declared.Line.{Line}
@@ -12,13 +12,14 @@ use Rattle.rules.specs.declared.Style.{Style}
 use Rattle.rules.specs.declared.Entry.{Entry}
 use Rattle.rules.specs.declared.Bend.{Bend}
 use Rattle.rules.specs.Basics.{keep}
-use Rattle.rules.specs.Points.{Drawing, line_at}
+use Rattle.rules.specs.Points.{Drawing}
 use Rattle.rules.specs.Adding.{new_lines}
 use Rattle.rules.specs.Records.{bytes_of, written, order_head, scale_shape, point_entries, end_shape, order_mark, scale_mark, entries_mark, end_mark}
 use Rattle.rules.specs.OrderFile.{entries_of, order_scale, order_points, write_order}
 use Rattle.store_links.specs.declared.Counts.{Counts}
 use Rattle.store_links.specs.Arrays.{Arrays, Stores}
 use Rattle.store_links.specs.Opening.{no_line}
+use Rattle.store_settling.specs.Lines.{line_is}
 use Rattle.exchange.specs.Built.{Built, begun, added, Whole}
 use Rattle.exchange.specs.Entries.{ends, lengthened}
 use Rattle.rules.proofs.Lengths.{bytes_append}
@@ -156,10 +157,6 @@ module _ (stored : List Line) where
 
 -- ---- the whole file
 
--- a stored line is the drawing's
-pub line_kept : {d : Drawing} {a : Arrays} {c : Counts} → Stores d a c → (e : ℕ) → e < length d.lines → get_or a.lines e no_line ≡ line_at d e
-line_kept {d} {a} t e el = sym (get_or-take (length d.lines) a.lines e no_line el) ∙ ap (λ (l : List Line). get_or l e no_line) t.drawn
-
 -- the header, with the scale or without it
 head_are : (n s : ℕ) (rest : List ℕ) → bytes_of (head_words n s) ++ rest ≡ written order_head (n ∷ []) ++ (order_scale s ++ rest)
 head_are n s rest = go (eqb s 1)
@@ -173,7 +170,7 @@ head_are n s rest = go (eqb s 1)
 pub order_is : {d : Drawing} {a : Arrays} {c : Counts} → Whole d → Stores d a c → bytes_of (order_words a.lines c) ≡ write_order d
 unfolding write_order
 order_is {d} {a} {c} h t =
-    let all : Kept a.lines 0 d.lines = kept a.lines 0 d.lines (λ i b. rw (zero-add i) (line_kept t i b)) in
+    let all : Kept a.lines 0 d.lines = kept a.lines 0 d.lines (λ i b. rw (zero-add i) (line_is t i b)) in
     let up = from_rising 1 d.k d.lines (rising h.reached.built) in
     let points = points_words a.lines c.lines c.n 1 0 in
     let points-is : bytes_of points ≡ order_points c.n 1 d.lines =
