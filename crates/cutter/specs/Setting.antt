@@ -1,10 +1,10 @@
 -- The setting of a finished drawing with a tool, or why there is none.
-use Rattle.std.specs.Prelude.{◌≡◌, ◌<◌, ◌≤◌, true, false, Option, None, Ok, Err, IsErrAnd}
+use Rattle.std.specs.Prelude.{◌≡◌, refl, ◌<◌, ◌≤◌, ltb, Bool, true, false, Option, None, Ok, Err, IsErrAnd}
 use Rattle.std.specs.Option.{ok_or}
-use Rattle.std.proofs.Common.{ap, ◌∙◌}
+use Rattle.std.proofs.Common.{ap, ◌∙◌, ltb-true, ltb-false}
 use Rattle.rules.specs.declared.Refused.{Refused}
 use Rattle.rules.specs.declared.Refusal.TheVariants.{BadTool, Unfinished}
-use Rattle.rules.specs.Refusals.{Answer, refusal_at}
+use Rattle.rules.specs.Refusals.{Answer, answer, refuse_if, refusal_at}
 use Rattle.rules.specs.Results.{handed_on}
 use Rattle.rules.specs.Moves.{is_tool}
 use Rattle.store_links.specs.declared.Counts.{Counts}
@@ -16,6 +16,14 @@ use Rattle.cutter_lines.specs.declared.Setting.{Setting}
 abbrev pub Finishes : Counts → Answer (Unit {0}) → Type 0
 Finishes c (Ok t) = c.n ≤ c.k
 Finishes c (Err e) = (c.k < c.n) × (e ≡ refusal_at Unfinished 0)
+
+-- the test of 22 says so
+pub finishes : (c : Counts) (r : Answer (Unit {0})) → r ≡ answer (refuse_if (ltb c.k c.n) Unfinished 0) → Finishes c r
+finishes c r e = rw e (go (ltb c.k c.n) refl)
+  where
+    go : (t : Bool) → ltb c.k c.n ≡ t → Finishes c (answer (refuse_if t Unfinished 0))
+    go true h = (ltb-true c.k c.n h, refl)
+    go false h = ltb-false c.k c.n h
 
 -- the drawing is finished, the tool is one, and these are their scale and numbers
 pub record IsSet (c : Counts) (t : Tool) (by : Setting) : Type 0 where

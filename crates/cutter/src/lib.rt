@@ -11,7 +11,7 @@ ghost use Rattle.tool.specs.Checking.{whole_tool, tool_of};
 ghost use Rattle.drawing.specs.Places.{PlacedIn, IsPlaced};
 ghost use Rattle.cutter_lists.specs.Listing.{PutsIn};
 ghost use Rattle.cutter.specs.Finding.{Finds, RoomIn};
-ghost use Rattle.cutter.specs.Setting.{Finishes, Sets};
+ghost use Rattle.cutter.specs.Setting.{Sets};
 ghost use Rattle.cutter.specs.Seen.{MoveSeen, move_count};
 ghost use Rattle.cutter.specs.Lists.{Lists, ListsIn};
 
@@ -60,23 +60,13 @@ fn count_moves(view: &View) -> usize
     count
 }
 
-// 22 while points are missing.
-fn finished(c: Counts) -> Answer<()>
-    ensures { Finishes c result }
-{
-    if c.k < c.n {
-        return Err(Refusal::Unfinished.at(0));
-    }
-    Ok(())
-}
-
 // The setting of a finished drawing with this tool. Refusals in order: 12, 22.
 fn setting(c: Counts, t: Tool) -> Answer<Setting>
     requires { (1 ≤ c.s) × (c.s ≤ 8) }
     ensures { Sets c t result }
 {
     let tool = tool::check_tool(t).ok_or(Refusal::BadTool.at(0))?;
-    finished(c)?;
+    store_looking::finished(c)?;
     Ok(Setting { scale: c.s, tool })
 }
 
@@ -105,7 +95,7 @@ pub fn move_count(v: Placed) -> Answer<usize>
     requires { IsPlaced v }
     ensures { (q : Plan) (t : WholeTool) → Is q v.drawing → is_tool t ≡ true → told_count result ≡ told (move_count q t) }
 {
-    finished(v.drawing.counts)?;
+    store_looking::finished(v.drawing.counts)?;
     Ok(count_moves(&v.view()))
 }
 

@@ -2,7 +2,9 @@
 // For `drawing`, whose look-ups by value are doors to these, and for `cutter` and `panel_c`, which are lent drawings.
 #![tactic(auto)]
 
-ghost use Rattle.std.specs.Prelude.{◌≡◌, ◌≤◌};
+ghost use Rattle.std.specs.Prelude.{◌≡◌, ◌≤◌, ltb};
+ghost use Rattle.rules.specs.declared.Refusal.TheVariants.{Unfinished};
+ghost use Rattle.rules.specs.Refusals.{answer, refuse_if};
 ghost use Rattle.rules.specs.Basics.{between};
 ghost use Rattle.rules.specs.Points.{Drawing as Plan};
 ghost use Rattle.rules.specs.Lookups.{look_point, look_line, LooksCut};
@@ -16,6 +18,7 @@ ghost use Rattle.store_looking.specs.Cuts.{cut_to, FirstCut};
 
 use answers::LineSeen;
 use rules::{Answer, Line, Place, Refusal, Style};
+use store_links::Counts;
 use store_settling::{View, bend_of};
 use store_tables::{Drawing, POINTS};
 
@@ -27,6 +30,16 @@ pub fn settled(d: &Drawing) -> [u16; POINTS]
     let mut x = [0u16; POINTS];
     store_settling::settle(&mut x, d);
     x
+}
+
+// 22 while points are missing.
+pub fn finished(c: Counts) -> Answer<()>
+    ensures { result ≡ answer (refuse_if (ltb c.k c.n) Unfinished 0) }
+{
+    if c.k < c.n {
+        return Err(Refusal::Unfinished.at(0));
+    }
+    Ok(())
 }
 
 // p is a placed point, of k points.

@@ -3,7 +3,7 @@
 #![tactic(auto)]
 
 ghost use Rattle.std.specs.Prelude.{◌≡◌, ◌≤◌, length, ltb};
-ghost use Rattle.rules.specs.declared.Refusal.TheVariants.{Unfinished, OutputShort};
+ghost use Rattle.rules.specs.declared.Refusal.TheVariants.{OutputShort};
 ghost use Rattle.rules.specs.Refusals.{good, answer, refuse_if};
 ghost use Rattle.rules.specs.Styles.{drawing_length};
 ghost use Rattle.rules.specs.Points.{Drawing as Plan, fewest_points, most_points};
@@ -15,7 +15,6 @@ ghost use Rattle.write_files.specs.Outputs.{Wrote, Ended};
 ghost use Rattle.write_files.specs.Finishing.{whole_order, IsReached};
 
 use rules::{Answer, Refusal, Style};
-use store_links::Counts;
 use store_settling::View;
 use store_tables::Drawing;
 
@@ -28,16 +27,6 @@ pub fn drawing_length(style: Style, n: usize) -> usize
         Style::OneBend => 42 * n - 60,
         Style::Straight => 30 * n - 36,
     }
-}
-
-// 22 while points are missing.
-fn finished(c: Counts) -> Answer<()>
-    ensures { result ≡ answer (refuse_if (ltb c.k c.n) Unfinished 0) }
-{
-    if c.k < c.n {
-        return Err(Refusal::Unfinished.at(0));
-    }
-    Ok(())
 }
 
 // 24 where the buffer is shorter than the bytes that are needed.
@@ -76,7 +65,7 @@ pub fn drawing_file(out: &mut [u8], d: &Drawing) -> Answer<usize>
     requires { IsReached d.now }
     ensures { (q : Plan) → Reached q → Is q d.now → Wrote out.old (write_drawing q) out.new result }
 {
-    finished(d.counts)?;
+    store_looking::finished(d.counts)?;
     put_drawing(out, d)
 }
 
@@ -85,6 +74,6 @@ pub fn order_file(out: &mut [u8], d: &Drawing) -> Answer<usize>
     requires { IsReached d.now }
     ensures { (q : Plan) → Reached q → Is q d.now → Wrote out.old (whole_order q) out.new result }
 {
-    finished(d.counts)?;
+    store_looking::finished(d.counts)?;
     put_order(out, d)
 }
