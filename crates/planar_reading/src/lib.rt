@@ -124,6 +124,7 @@ fn starts_of(n: u8, lists: &[u8]) -> [u16; START_ROOM]
     starts
 }
 
+// Vertices and places come as plain numbers, and each method asks that they are in range: a type for each would be no plainer, since it would be made of a number at every call.
 impl Net {
     // The net of a file: 14 where it is not well formed, and 15 where it has more places than a net of 255 vertices.
     pub fn read(file: &[u8]) -> Answer<Net>

@@ -1,5 +1,6 @@
 // What the programs print, in either style: from the bytes read to the bytes to write, proved equal to `Output.program` and `Output.back_program`.
 // The functions ask for pages of document 01's sizes, so that 24 never happens; `files` has them.
+// Each gives a length within its page, here and in the crates beside this one: a slice of the page in its place would be no plainer, since the page would stay lent as long as that.
 #![tactic(auto)]
 
 ghost use Rattle.std.specs.Prelude.{ℕ, ◌≤◌, ◌<◌, List, length};

@@ -1,4 +1,4 @@
-// Decimal numbers and the line of a refusal, put into a page. For `printing`, `printing_move` and `printing_import`: the functions ask for room.
+// Decimal numbers and the line of a refusal, put into a page. For `printing`, `printing_move` and `printing_import`: the functions ask for room, each for its own.
 // By hand, since what is printed is proved byte for byte: `write!` says which bytes it writes only to a String, and the project has no heap.
 #![tactic(auto)]
 

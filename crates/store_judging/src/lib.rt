@@ -1,5 +1,5 @@
 // The tests of an adding call that need no new places, on the stored owners and links: 21, 5, then entry by entry 13, 6, 7, then 8, 9.
-// For `store_adding` and, entry by entry, for `read_long`.
+// For `store_adding` and, entry by entry, for `read_long`. Of the drawing they ask no more than k in range: a type for that alone would be no plainer.
 #![tactic(auto)]
 
 ghost use Rattle.std.specs.Prelude.{◌≡◌, [], ◌∷◌, ◌≤◌};

@@ -1,6 +1,6 @@
 // Steps 1 to 5 of an adding call, by distances from wl: where the new point goes, and which ports reach the inner points.
 // Every function reads, none stores.
-// For `store_adding`: they ask for entries that passed the tests, and for numbers that fit.
+// For `store_adding`: they ask for entries that passed the tests, and for numbers that fit. Both stand in contracts: entries are the caller's own slice, and a type for a spot of small numbers would be no plainer, since its maker doesn't need that they are small.
 #![tactic(auto)]
 
 ghost use Rattle.std.specs.Prelude.{◌≡◌, ◌||◌, suc, ◌+◌, ◌-◌, ◌/◌, ◌<◌, ◌≤◌, length};
