@@ -2,20 +2,20 @@
 #![tactic(auto)]
 
 ghost use Rattle.std.specs.Prelude.{◌≡◌};
-ghost use Rattle.rules.specs.Refusals.{good, answer};
+ghost use Rattle.rules.specs.Refusals.{good};
 ghost use Rattle.rules.specs.Points.{Drawing as Plan};
 ghost use Rattle.rules.specs.OrderFile.{read_order};
-ghost use Rattle.rules.specs.DrawingFile.{drawing_bytes, write_drawing, draw_file, read_drawing, order_back, compare_bytes};
+ghost use Rattle.rules.specs.DrawingFile.{write_drawing, draw_file, read_drawing, order_back};
 ghost use Rattle.promise.specs.Promise.{Promised};
 ghost use Rattle.store_laws.specs.Stored.{Is};
-ghost use Rattle.exchange.specs.Built.{Reached, Whole};
+ghost use Rattle.exchange.specs.Built.{Reached};
 ghost use Rattle.drawing.specs.View.{Came};
 ghost use Rattle.drawing.specs.Opens.{Gives};
-ghost use Rattle.write_files.specs.Outputs.{Wrote, Ended};
+ghost use Rattle.write_files.specs.Outputs.{Wrote};
 ghost use Rattle.write_files.specs.Finishing.{whole_order};
 
 use drawing::Drawing;
-use rules::{Answer, LONGEST_DRAWING, Style};
+use rules::{Answer, Style};
 
 // The drawing of an order file in a style, by value, which keeps the promise of that style, or the refusal of document 01.
 #[tactic(auto, using(crate::proofs::Keeping::keeping))]
@@ -55,16 +55,6 @@ pub fn draw(style: Style, order: &[u8], out: &mut [u8]) -> Answer<usize>
     write_files::put_drawing(out, &d)
 }
 
-// Compares a file with the drawing file of the finished drawing. That lies in a fixed array, since the project has no heap.
-fn compare_drawing(file: &[u8], d: &Drawing) -> Answer<()>
-    requires { Ended d.now }
-    ensures { (q : Plan) → Whole q → Is q d.now → result ≡ answer (compare_bytes 0 file.now (drawing_bytes q)) }
-{
-    let mut drawn = [0u8; LONGEST_DRAWING];
-    let length = write_files::put_drawing(&mut drawn, d)?;
-    read_comparing::compare(file, &drawn[..length])
-}
-
 // Reads a drawing file of a style, whose drawing keeps the promise of that style, and gives its order file back, or the refusal of document 01.
 #[tactic(auto, using(crate::proofs::Keeping::keeping))]
 pub fn undraw(style: Style, file: &[u8], out: &mut [u8]) -> Answer<usize>
@@ -73,6 +63,6 @@ pub fn undraw(style: Style, file: &[u8], out: &mut [u8]) -> Answer<usize>
 {
     let mut d = Drawing::blank();
     read_drawings::read_lines(file, style, &mut d)?;
-    compare_drawing(file, &d)?;
+    write_files::compare_drawing(file, &d)?;
     write_files::put_order(out, &d)
 }

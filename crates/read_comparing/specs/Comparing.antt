@@ -29,7 +29,7 @@ pub goes_on : (a b : List ℕ) (i : ℕ) → i < length a → i < length b → g
 goes_on a b i h k d = rw (drop-cons a i 0 h, drop-cons b i 0 k, eq-eqb (get_or a i 0) (get_or b i 0) d, add-one)
 
 -- files of which no byte differs are the same
-compared : (i : ℕ) (a b : List ℕ) → compare_bytes i a b ≡ good tt → a ≡ b
+pub compared : (i : ℕ) (a b : List ℕ) → compare_bytes i a b ≡ good tt → a ≡ b
 compared i [] [] h = refl
 compared i [] (y ∷ b) h = absurd (never-good h)
 compared i (x ∷ a) [] h = absurd (never-good h)

@@ -1,2 +1,3 @@
+pub mod Compared
 pub mod Turns
 pub mod Written

@@ -1,17 +1,17 @@
 -- What is read, found and written is the record of a point or of a line, on plain values.
 use Rattle.std.specs.Prelude.{ℕ, ◌+◌, ◌*◌, ◌≡◌, refl, List, [], ◌∷◌, length, get_or, take}
-use Rattle.std.proofs.Common.{arith}
+use Rattle.std.proofs.Common.{ap, ◌∙◌, arith, length-append}
 use Rattle.rules.specs.declared.Style.{Style}
 use Rattle.rules.specs.declared.Style.TheVariants.{OneBend, Straight}
 use Rattle.rules.specs.declared.Line.{Line}
 use Rattle.rules.specs.declared.Place.{Place}
-use Rattle.rules.specs.Records.{bytes_of, written, point_place, line_shape, end_mark, place_size, line_size}
+use Rattle.rules.specs.Records.{bytes_of, written, drawing_head, point_place, line_shape, end_mark, head_size, place_size, line_size}
 use Rattle.rules.specs.DrawingFile.{highest, last_field}
 use Rattle.rules.specs.Styles.{drawing_mark}
 use Rattle.store_links.specs.declared.Counts.{Counts}
 use Rattle.store_links.specs.Arrays.{Arrays}
 use Rattle.store_links.specs.Opening.{no_line}
-use Rattle.write_drawings.specs.Lists.{several, point_bytes, bend_at, line_bytes, file_bytes}
+use Rattle.write_drawings.specs.Lists.{several, point_bytes, bend_at, line_bytes, head_bytes, file_bytes}
 use Rattle.pages.specs.declared.Page.{Page}
 use Rattle.pages.specs.Pages.{Grown, grown_both}
 use Rattle.write_drawings.specs.Stores.{length-several}
@@ -47,10 +47,22 @@ points_end s xs ys k p = omega (arith, p.at, length-several (point_bytes s xs ys
 pub lines_end : (τ : Style) (s : ℕ) (xs : List ℕ) (a : Arrays) (k : ℕ) {page after : Page} → Grown page (several (line_bytes τ s xs a) k) after → after.at ≡ page.at + line_size τ * k
 lines_end τ s xs a k p = omega (arith, p.at, length-several (line_bytes τ s xs a) (line_size τ) (length-bytes τ s xs a) k)
 
--- The header, the points, the lines and the end mark, one behind the other, are the file.
-pub file-put : (xs : List ℕ) (a : Arrays) (c : Counts) {mark width top height : ℕ} {p₀ p₁ p₂ p₃ p₄ : Page} → mark ≡ drawing_mark c.style →
+-- The header and the points, one behind the other, are the file's start,
+pub head-put : (xs : List ℕ) (a : Arrays) (c : Counts) {mark width top height : ℕ} {p₀ p₁ p₂ : Page} → mark ≡ drawing_mark c.style →
     width ≡ c.s * get_or xs 1 0 → top ≡ highest (take c.k a.ys) → height ≡ c.s * top → Grown p₀ (bytes_of (mark ∷ c.n ∷ c.s ∷ width ∷ height ∷ [])) p₁ →
-    Grown p₁ (several (point_bytes c.s xs a.ys) c.k) p₂ → Grown p₂ (several (line_bytes c.style c.s xs a) c.lines) p₃ → Grown p₃ (bytes_of (end_mark ∷ [])) p₄ →
-    Grown p₀ (file_bytes xs a c) p₄
+    Grown p₁ (several (point_bytes c.s xs a.ys) c.k) p₂ → Grown p₀ (head_bytes xs a c) p₂
+unfolding head_bytes
+head-put xs a c m w t h head points = grown_both (rw (m, w, h, t) at head) points
+
+-- which has its size.
+pub length-head : (xs : List ℕ) (a : Arrays) (c : Counts) → length (head_bytes xs a c) ≡ head_size + place_size * c.k
+unfolding head_bytes
+length-head xs a c =
+    length-append (written (drawing_head c.style) (c.n ∷ c.s ∷ c.s * get_or xs 1 0 ∷ c.s * highest (take c.k a.ys) ∷ [])) (several (point_bytes c.s xs a.ys) c.k) ∙
+    ap (λ (n : ℕ). head_size + n) (length-several (point_bytes c.s xs a.ys) place_size (λ i. refl) c.k)
+
+-- It, the lines and the end mark are the file.
+pub file-put : (xs : List ℕ) (a : Arrays) (c : Counts) {p₀ p₁ p₂ p₃ : Page} → Grown p₀ (head_bytes xs a c) p₁ →
+    Grown p₁ (several (line_bytes c.style c.s xs a) c.lines) p₂ → Grown p₂ (bytes_of (end_mark ∷ [])) p₃ → Grown p₀ (file_bytes xs a c) p₃
 unfolding file_bytes
-file-put xs a c m w t h head points lines end = grown_both (rw (m, w, h, t) at head) (grown_both points (grown_both lines end))
+file-put xs a c head lines end = grown_both head (grown_both lines end)

@@ -9,7 +9,7 @@ use Rattle.rules.specs.declared.Line.{Line}
 use Rattle.rules.specs.declared.Place.{Place}
 use Rattle.rules.specs.Points.{Drawing, line_at}
 use Rattle.rules.specs.Ports.{bend_place}
-use Rattle.rules.specs.Records.{written, point_place, line_shape, end_shape, head_size, place_size, line_size}
+use Rattle.rules.specs.Records.{written, drawing_head, point_place, line_shape, end_shape, head_size, place_size, line_size}
 use Rattle.rules.specs.DrawingFile.{highest, write_points, line_words, write_lines, drawing_bytes}
 use Rattle.store_links.specs.declared.Counts.{Counts}
 use Rattle.store_links.specs.Arrays.{Arrays}
@@ -17,7 +17,7 @@ use Rattle.promise.specs.Standing.{Standing}
 use Rattle.store_settling.specs.Bending.{Shows, shows_of, bend_right}
 use Rattle.store_links.specs.Opening.{no_line}
 use Rattle.store_settling.specs.Lines as Lines
-use Rattle.write_drawings.specs.Lists.{several, point_bytes, bend_at, line_bytes, file_bytes}
+use Rattle.write_drawings.specs.Lists.{several, point_bytes, bend_at, line_bytes, head_bytes, file_bytes}
 use Rattle.write_drawings.specs.Stores.{length-several}
 use Rattle.write_drawings.specs.Finished.{Finished}
 
@@ -105,7 +105,7 @@ module _ {d : Drawing} {x : List ℕ} {a : Arrays} {c : Counts} (h : Finished d 
 
   -- The file that the arrays give is the drawing's.
   pub file_is : file_bytes x a c ≡ drawing_bytes d
-  unfolding file_bytes drawing_bytes
+  unfolding file_bytes head_bytes drawing_bytes
   file_is =
       let z = h.holds.standing.sound.sized in
       let k = h.holds.standing.ranged.three in
@@ -115,4 +115,5 @@ module _ {d : Drawing} {x : List ℕ} {a : Arrays} {c : Counts} (h : Finished d 
       ap (several (point_bytes d.s d.xs d.ys)) (sym z.xs) ∙ sym (points_are d.s d.xs d.ys (z.xs ∙ sym z.ys)) in
       let l : several (line_bytes d.style d.s x a) (length d.lines) ≡ write_lines d d.lines =
       several_same (line_bytes d.style d.s x a) (λ e. line_record d (line_at d e)) (length d.lines) record_is ∙ sym (lines_are d d.lines _) in
+      append_assoc (written (drawing_head c.style) (c.n ∷ c.s ∷ c.s * get_or x 1 0 ∷ c.s * highest (take c.k a.ys) ∷ [])) (several (point_bytes c.s x a.ys) c.k) (several (line_bytes c.style c.s x a) c.lines ++ written end_shape []) ∙
       rw (h.holds.stores.style, h.holds.stores.n, h.holds.stores.s, top, x_is 1 (omega arith), h.holds.stores.k, h.holds.stores.lines, p, l)

@@ -9,7 +9,7 @@ use Rattle.store_links.specs.Arrays.{Arrays}
 use Rattle.store_laws.specs.Adding.{Holds}
 use Rattle.store_settling.specs.Bends.{Bendable}
 use Rattle.store_links.specs.Opening.{no_line}
-use Rattle.rules.specs.Records.{place_size, line_size}
+use Rattle.rules.specs.Records.{head_size, place_size, line_size}
 use Rattle.write_drawings.specs.Lists.{bend_at}
 
 -- the arrays and numbers hold the finished drawing d, and x has its settled x
@@ -19,6 +19,11 @@ pub record Finished (d : Drawing) (x : List ℕ) (a : Arrays) (c : Counts) : Typ
   pub settled : take c.k x ≡ d.xs
   pub scale : (1 ≤ d.s) × (d.s ≤ 8)
   pub full : d.k ≡ d.n
+
+-- what comparing asks: some finished drawing is held so
+pub record Held (x : List ℕ) (a : Arrays) (c : Counts) : Type 0 where
+  pub d : Drawing
+  pub finished : Finished d x a c
 
 -- what writing asks: some finished drawing is held so, and its file has room in the buffer
 pub record Writable (x : List ℕ) (a : Arrays) (c : Counts) (buffer : List ℕ) : Type 0 where
@@ -35,6 +40,11 @@ pub record PointsReady (xs ys : List ℕ) (s k at : ℕ) (buffer : List ℕ) : T
   pub x : (i : ℕ) → i < k → s * get_or xs i 0 < 65536
   pub y : (i : ℕ) → i < k → s * get_or ys i 0 < 65536
   pub room : at + place_size * k ≤ length buffer
+
+-- the numbers of the header and of all points fit, and their records have room at the place `at`
+pub record HeadReady (x : List ℕ) (a : Arrays) (c : Counts) (at : ℕ) (buffer : List ℕ) : Type 0 where
+  pub held : Held x a c
+  pub room : at + head_size + place_size * c.k ≤ length buffer
 
 -- a line's bend is found, and times s it fits
 pub record LineFits (x : List ℕ) (a : Arrays) (s : ℕ) (l : Line) : Type 0 where

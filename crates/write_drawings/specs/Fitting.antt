@@ -10,7 +10,8 @@ use Rattle.store_links.specs.Arrays.{Arrays}
 use Rattle.promise.proofs.Bounds.{width_most, lines_most, place_most, bend_most}
 use Rattle.store_settling.specs.Bending.{bendable_of}
 use Rattle.rules.specs.Records.{head_size, place_size, line_size}
-use Rattle.write_drawings.specs.Finished.{Finished, Writable, PointsReady, LineFits, LinesReady}
+use Rattle.store_links.specs.Opening.{no_line}
+use Rattle.write_drawings.specs.Finished.{Finished, Held, Writable, PointsReady, LineFits, LinesReady}
 use Rattle.write_drawings.specs.Files.{length-file, shows, x_is, y_is, line_is, bend_is, file_is}
 
 module _ {d : Drawing} {x : List ℕ} {a : Arrays} {c : Counts} (h : Finished d x a c) where
@@ -98,3 +99,13 @@ ready {x} {a} {c} {buffer} w =
 -- The file of every finished drawing that is held so has room.
 pub has_room : {x : List ℕ} {a : Arrays} {c : Counts} {buffer : List ℕ} {d : Drawing} → Writable x a c buffer → Finished d x a c → length (drawing_bytes d) ≤ length buffer
 has_room w h = omega (arith, ap length (file_is h), ap length (file_is w.finished), w.room)
+
+-- A finished drawing can be written where its file is as long as the buffer.
+pub enough : {x : List ℕ} {a : Arrays} {c : Counts} (h : Held x a c) → Writable x a c (drawing_bytes h.d)
+enough h = record { d = h.d; finished = h.finished; room = omega arith }
+
+-- The records of all its points and lines fit.
+pub line-ready : {x : List ℕ} {a : Arrays} {c : Counts} → Held x a c → (e : ℕ) → e < c.lines → (e < 3072) × LineFits x a c.s (get_or a.lines e no_line)
+line-ready {x} {a} {c} h e b =
+    let l = lines-ready h.finished 0 (drawing_bytes h.d) (omega (arith, (ready (enough h)).room)) in
+    (omega (arith, l.few), l.fits e b)

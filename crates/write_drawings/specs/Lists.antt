@@ -27,9 +27,12 @@ bend_at x a l = bend_in x a l.later l.earlier l.bend
 unfoldable pub line_bytes : Style → ℕ → List ℕ → Arrays → ℕ → List ℕ
 line_bytes τ s x a e = written (line_shape τ) (line_words τ s (get_or a.lines e no_line) (bend_at x a (get_or a.lines e no_line)))
 
+-- the header, and the records of all points
+unfoldable pub head_bytes : List ℕ → Arrays → Counts → List ℕ
+head_bytes x a c =
+    written (drawing_head c.style) (c.n ∷ c.s ∷ c.s * get_or x 1 0 ∷ c.s * highest (take c.k a.ys) ∷ []) ++
+    several (point_bytes c.s x a.ys) c.k
+
 -- the whole file
 unfoldable pub file_bytes : List ℕ → Arrays → Counts → List ℕ
-file_bytes x a c =
-    written (drawing_head c.style) (c.n ∷ c.s ∷ c.s * get_or x 1 0 ∷ c.s * highest (take c.k a.ys) ∷ []) ++
-    (several (point_bytes c.s x a.ys) c.k ++
-    (several (line_bytes c.style c.s x a) c.lines ++ written end_shape []))
+file_bytes x a c = head_bytes x a c ++ (several (line_bytes c.style c.s x a) c.lines ++ written end_shape [])

@@ -1,19 +1,26 @@
-// Writes the drawing file of a finished drawing.
-// For `write_files`: it asks for a finished drawing and room in the buffer, which are tested there.
+// Writes the drawing file of a finished drawing, and compares a file with it.
+// For `write_files`: it asks for a finished drawing and, to write, room in the buffer, which are tested there.
 #![tactic(auto)]
 
-ghost use Rattle.std.specs.Prelude.{◌≡◌, ◌*◌, ◌<◌};
+ghost use Rattle.std.specs.Prelude.{◌≡◌, ◌*◌, ◌<◌, ◌≤◌, [], ◌∷◌, length, drop, get_or};
 ghost use Rattle.rules.specs.Points.{Drawing as Plan};
-ghost use Rattle.rules.specs.Refusals.{good};
-ghost use Rattle.rules.specs.DrawingFile.{highest, drawing_bytes};
+ghost use Rattle.rules.specs.Refusals.{good, answer};
+ghost use Rattle.rules.specs.DrawingFile.{highest, drawing_bytes, compare_bytes};
 ghost use Rattle.rules.specs.Output.{filled};
+ghost use Rattle.rules.specs.Records.{bytes_of, end_mark};
+ghost use Rattle.store_links.specs.Opening.{no_line};
 ghost use Rattle.store_tables.specs.Tables.{arrays_in, ys};
-ghost use Rattle.write_drawings.specs.Lists.{several, point_bytes, line_bytes};
+ghost use Rattle.read_comparing.specs.Parts.{part_compared};
+ghost use Rattle.write_drawings.specs.Lists.{several, point_bytes, line_bytes, head_bytes};
 ghost use Rattle.pages.specs.Pages.{Grown};
-ghost use Rattle.write_drawings.specs.Finished.{Finished, Writable, PointsReady, LineReady, LinesReady};
+ghost use Rattle.write_drawings.specs.Finished.{Finished, Held, Writable, PointsReady, HeadReady, LineFits, LineReady, LinesReady};
 
 use pages::Page;
-use rules::{LINE_MARK, PLACE_MARK, Style};
+use read_comparing::{compare_end, compare_part};
+use rules::{
+    Answer, DRAWING_SIZE, END_SIZE, LINE_MARK, LINE_SIZE, MOST_POINTS, PLACE_MARK, PLACE_SIZE,
+    Style,
+};
 use store_settling::{View, bend_of};
 use store_tables::Point;
 use styles::drawing_mark;
@@ -86,19 +93,83 @@ fn write_lines(page: &mut Page<'_>, view: &View)
     }
 }
 
+// Puts the header and the records of all points there.
+fn write_head(page: &mut Page<'_>, view: &View)
+    requires { let d = view.now.drawing.now in
+        HeadReady view.now.x.now (arrays_in d.table) d.counts page.old.at page.old.bytes.now }
+    ensures { let d = view.now.drawing.now in
+        Grown page.old (head_bytes view.now.x.now (arrays_in d.table) d.counts) page.new }
+{
+    let c = view.drawing.counts;
+    let width = scaled(c.s, view.x[1]);
+    let height = scaled(c.s, largest(&view.drawing.table.points[..c.k]));
+    let header = [drawing_mark(c.style), c.n as u16, c.s as u16, width, height];
+    page.words(&header);
+    write_points(page, view);
+}
+
 // The drawing file of a finished drawing: into the start of the buffer.
 pub fn write_drawing(out: &mut [u8], view: &View)
     requires { Writable view.now.x.now (arrays_in view.now.drawing.now.table) view.now.drawing.now.counts out.old }
     ensures { (p : Plan) → Finished p view.now.x.now (arrays_in view.now.drawing.now.table) view.now.drawing.now.counts →
         out.new ≡ filled out.old (good (drawing_bytes p)) }
 {
-    let c = view.drawing.counts;
-    let width = scaled(c.s, view.x[1]);
-    let height = scaled(c.s, largest(&view.drawing.table.points[..c.k]));
-    let header = [drawing_mark(c.style), c.n as u16, c.s as u16, width, height];
     let mut page = Page::new(out);
-    page.words(&header);
-    write_points(&mut page, view);
+    write_head(&mut page, view);
     write_lines(&mut page, view);
     put_end(&mut page);
+}
+
+// How many bytes the header and 1,024 points have.
+const LONGEST_HEAD: usize = DRAWING_SIZE + PLACE_SIZE * MOST_POINTS;
+
+// Compares the start of a file with the header and the records of all points.
+fn compare_head(file: &[u8], view: &View) -> Answer<usize>
+    requires { Held view.now.x.now (arrays_in view.now.drawing.now.table) view.now.drawing.now.counts }
+    ensures { let d = view.now.drawing.now in
+        result ≡ part_compared file.now 0 (head_bytes view.now.x.now (arrays_in d.table) d.counts) }
+{
+    let mut bytes = [0u8; LONGEST_HEAD];
+    let mut page = Page::new(&mut bytes);
+    write_head(&mut page, view);
+    let length = page.at;
+    compare_part(file, 0, &bytes[..length])
+}
+
+// Compares the bytes of a file from `at` on with the record of line e.
+fn compare_line(file: &[u8], at: usize, view: &View, e: usize) -> Answer<usize>
+    requires { let a = arrays_in view.now.drawing.now.table in
+        (at ≤ length file.now) × (e < 3072) × LineFits view.now.x.now a view.now.drawing.now.counts.s (get_or a.lines e no_line) }
+    ensures { let d = view.now.drawing.now in
+        result ≡ part_compared file.now at (line_bytes d.counts.style d.counts.s view.now.x.now (arrays_in d.table) e) }
+{
+    let mut bytes = [0u8; LINE_SIZE];
+    let mut page = Page::new(&mut bytes);
+    write_line(&mut page, view, e);
+    let length = page.at;
+    compare_part(file, at, &bytes[..length])
+}
+
+// Compares the bytes of a file from `at` on with the end record, behind which nothing follows.
+fn compare_last(file: &[u8], at: usize) -> Answer<()>
+    requires { at ≤ length file.now }
+    ensures { result ≡ answer (compare_bytes at (drop at file.now) (bytes_of (end_mark ∷ []))) }
+{
+    let mut bytes = [0u8; END_SIZE];
+    put_end(&mut Page::new(&mut bytes));
+    let end = compare_part(file, at, &bytes)?;
+    compare_end(file, end)
+}
+
+// Compares a file with the drawing file of a finished drawing, part by part as that is written, so that no call holds it whole: the project has no heap.
+pub fn compare_drawing(file: &[u8], view: &View) -> Answer<()>
+    requires { Held view.now.x.now (arrays_in view.now.drawing.now.table) view.now.drawing.now.counts }
+    ensures { (p : Plan) → Finished p view.now.x.now (arrays_in view.now.drawing.now.table) view.now.drawing.now.counts →
+        result ≡ answer (compare_bytes 0 file.now (drawing_bytes p)) }
+{
+    let mut at = compare_head(file, view)?;
+    for e in 0..view.drawing.counts.lines {
+        at = compare_line(file, at, view, e)?;
+    }
+    compare_last(file, at)
 }

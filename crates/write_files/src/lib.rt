@@ -1,4 +1,4 @@
-// Both files of a drawing, written into a buffer that the caller lends: 24 where it is short.
+// Both files of a drawing, written into a buffer that the caller lends: 24 where it is short. And a file compared with the drawing file: 11 where it is another.
 // For `panel` and `panel_asked`: it asks for a stored drawing, a finished one where it does not test that.
 #![tactic(auto)]
 
@@ -8,7 +8,7 @@ ghost use Rattle.rules.specs.Refusals.{good, answer, refuse_if};
 ghost use Rattle.rules.specs.Styles.{drawing_length};
 ghost use Rattle.rules.specs.Points.{Drawing as Plan, fewest_points, most_points};
 ghost use Rattle.rules.specs.OrderFile.{write_order};
-ghost use Rattle.rules.specs.DrawingFile.{drawing_bytes, write_drawing};
+ghost use Rattle.rules.specs.DrawingFile.{drawing_bytes, write_drawing, compare_bytes};
 ghost use Rattle.store_laws.specs.Stored.{Is};
 ghost use Rattle.exchange.specs.Built.{Reached, Whole};
 ghost use Rattle.write_files.specs.Outputs.{Wrote, Ended};
@@ -49,6 +49,15 @@ pub fn put_drawing(out: &mut [u8], d: &Drawing) -> Answer<usize>
     let x = store_looking::settled(d);
     write_drawings::write_drawing(out, &View { drawing: d, x: &x });
     Ok(need)
+}
+
+// Compares a file with the drawing file of a finished drawing.
+pub fn compare_drawing(file: &[u8], d: &Drawing) -> Answer<()>
+    requires { Ended d.now }
+    ensures { (q : Plan) → Whole q → Is q d.now → result ≡ answer (compare_bytes 0 file.now (drawing_bytes q)) }
+{
+    let x = store_looking::settled(d);
+    write_drawings::compare_drawing(file, &View { drawing: d, x: &x })
 }
 
 // Its order file; the length of that.
