@@ -2,7 +2,7 @@
 #![tactic(auto)]
 
 ghost use Rattle.std.specs.Prelude.{◌≡◌, OnErr};
-ghost use Rattle.store_tables.specs.Tables.{blank};
+ghost use Rattle.store_tables.specs.Tables.{zeros};
 ghost use Rattle.calls.specs.Turns.{Callable, Made, Begun, Ended, Runs};
 ghost use Rattle.calls.specs.Ran.{drawing_in, Ran};
 
@@ -36,9 +36,9 @@ fn all_calls(d: &mut Drawing, calls: &[u16], answers: &mut [u16])
     }
 }
 
-// Opens a blank drawing in this style for n points and makes all calls on it, with their answers in the buffer.
+// Opens a drawing whose table is empty in this style for n points and makes all calls on it, with their answers in the buffer.
 fn draw_calls(d: &mut Drawing, style: Style, n: usize, calls: &[u16], answers: &mut [u16])
-    requires { Runs style n calls.now answers.old × (d.old ≡ blank) }
+    requires { Runs style n calls.now answers.old × (d.old.table ≡ zeros) }
     ensures { Ended style n calls.now answers.old d.new answers.new }
 {
     store_points::open_in(d, style, n, 1, 1, 1, 2);
@@ -46,7 +46,7 @@ fn draw_calls(d: &mut Drawing, style: Style, n: usize, calls: &[u16], answers: &
 }
 
 // Makes the calls that the words hold on a drawing of this style opened for n points; each answer takes two words of the buffer.
-// For `panel_c`: it asks for a blank drawing, and leaves it so where it refuses. It is lent, so that no call through C has two on its stack (fixed memory).
+// For `panel_c`: it asks for a drawing whose table is empty, whatever its numbers, and leaves it so where it refuses. It is lent, so that no call through C has two on its stack (fixed memory).
 // No struct of style, n, calls and answers: `run` takes them by name, and each is handed on once.
 pub fn run_in(
     d: &mut Drawing,
@@ -55,7 +55,7 @@ pub fn run_in(
     calls: &[u16],
     answers: &mut [u16],
 ) -> Answer<()>
-    requires { d.old ≡ blank }
+    requires { d.old.table ≡ zeros }
     ensures ran { Ran style n calls.now answers.old answers.new (drawing_in result d.new) }
     ensures kept { OnErr result (d.new ≡ d.old) }
 {

@@ -1,9 +1,9 @@
 // A drawing file's records, read into the lent drawing. Comparing its bytes with the drawing's, 11, is left to the caller.
-// For `panel`: it asks for a blank drawing, which is lent, so that no call through C has two on its stack (fixed memory).
+// For `panel`: it asks for a drawing whose table is empty, which is lent, so that no call through C has two on its stack (fixed memory).
 #![tactic(auto)]
 
 ghost use Rattle.std.specs.Prelude.{◌≡◌};
-ghost use Rattle.store_tables.specs.Tables.{blank};
+ghost use Rattle.store_tables.specs.Tables.{zeros};
 ghost use Rattle.read_drawings.specs.Whole.{Passes};
 ghost use Rattle.read_drawings.specs.Contracted.{Groups, Grouped, AllGrouped, LinesRead};
 
@@ -50,7 +50,7 @@ fn add_groups(lines: &Cursor, style: Style, total: usize, d: &mut Drawing) -> An
 
 // The drawing of a file whose tests before the groups of points 4 to n have passed.
 fn read_passed(f: &[u8], style: Style, d: &mut Drawing) -> Answer<()>
-    requires { Passes style f.now × (d.old ≡ blank) }
+    requires { Passes style f.now × (d.old.table ≡ zeros) }
     ensures { LinesRead style f.now d.new result }
 {
     let n = usize::from(word_at(f, N_AT));
@@ -69,10 +69,10 @@ fn read_passed(f: &[u8], style: Style, d: &mut Drawing) -> Answer<()>
     add_groups(&lines, style, 3 * n - 6, d)
 }
 
-// Reads a drawing file of this style into a blank drawing, up to the comparison of its bytes with the drawing's, 11.
+// Reads a drawing file of this style into a drawing whose table is empty, up to the comparison of its bytes with the drawing's, 11.
 // What the drawing is after a refusal is left open.
 pub fn read_lines(f: &[u8], style: Style, d: &mut Drawing) -> Answer<()>
-    requires { d.old ≡ blank }
+    requires { d.old.table ≡ zeros }
     ensures { LinesRead style f.now d.new result }
 {
     judge_file(f, style)?;

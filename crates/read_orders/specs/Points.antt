@@ -7,7 +7,7 @@ use Rattle.rules.specs.Refusals.{Answer, Result, good, refused, refusal_at}
 use Rattle.rules.specs.Points.{Drawing as Plan}
 use Rattle.rules.specs.OrderFile.{read_rest}
 use Rattle.store_tables.specs.declared.Drawing.{Drawing}
-use Rattle.store_tables.specs.Tables.{blank}
+use Rattle.store_tables.specs.Tables.{zeros}
 use Rattle.store_laws.specs.Stored.{Is}
 use Rattle.read_records.specs.Cursors.{cursor}
 
@@ -54,8 +54,8 @@ gave-refused {r = Err e} g x p h =
 abbrev pub RestRead : List ℕ → ℕ → ℕ → Drawing → Drawing → Answer (Unit {0}) → Type 0
 RestRead f at k d d' r = (p : Plan) → Is p d → Gave (read_rest k p (cursor f at)) d' r
 
--- a blank drawing, behind the header of a file with n points
+-- an empty table, behind the header of a file with n points
 pub record Headed (n : ℕ) (d : Drawing) : Type 0 where
-  pub none : d ≡ blank
+  pub none : d.table ≡ zeros
   pub low : 3 ≤ n
   pub high : n ≤ 1024

@@ -1,10 +1,10 @@
 // Reads an order file into the lent drawing, record by record; the first refusal is the answer.
-// For `panel`: it asks for a blank drawing, which is lent, so that no call through C has two on its stack (fixed memory).
+// For `panel`: it asks for a drawing whose table is empty, which is lent, so that no call through C has two on its stack (fixed memory).
 #![tactic(auto)]
 
 ghost use Rattle.std.specs.Prelude.{◌≡◌};
 ghost use Rattle.rules.specs.OrderFile.{read_points, read_order};
-ghost use Rattle.store_tables.specs.Tables.{blank};
+ghost use Rattle.store_tables.specs.Tables.{zeros};
 ghost use Rattle.store_laws.specs.Stored.{Stored};
 ghost use Rattle.read_records.specs.Cursors.{cursor};
 ghost use Rattle.read_orders.specs.Points.{PointRead, RestRead, Headed, Gave};
@@ -55,9 +55,9 @@ fn read_points(here: &Cursor, style: Style, n: usize, s: usize, d: &mut Drawing)
     read_rest(&here.moved_to(start.at), n - 3, d)
 }
 
-// Reads an order file into a blank drawing, as a drawing of this style. After a refusal it is anything: throw it away.
+// Reads an order file into a drawing whose table is empty, as a drawing of this style. After a refusal it is anything: throw it away.
 pub fn read_order(f: &[u8], style: Style, d: &mut Drawing) -> Answer<()>
-    requires { d.old ≡ blank }
+    requires { d.old.table ≡ zeros }
     ensures { Gave (read_order style f.now) d.new result }
 {
     let head = read_head(f)?;

@@ -1,5 +1,5 @@
 // The points in the lent table: those of a drawing as opened, and what changes at the points of a run and at the new point.
-// For the crates above: opening asks for a blank drawing, the others for a run that passed the tests and for the new point's place.
+// For the crates above: opening asks for a drawing whose table is empty, the others for a run that passed the tests and for the new point's place.
 #![tactic(auto)]
 
 ghost use Rattle.std.specs.Prelude.{◌≡◌, ◌<◌, ◌≤◌, length, set};
@@ -7,7 +7,7 @@ ghost use Rattle.rules.specs.Styles as Styles;
 ghost use Rattle.store_links.specs.Arrays.{at_point};
 ghost use Rattle.store_links.specs.Placing.{inner_count};
 ghost use Rattle.store_links.specs.Storing.{put_at};
-ghost use Rattle.store_tables.specs.Tables.{arrays_in, blank};
+ghost use Rattle.store_tables.specs.Tables.{arrays_in, zeros};
 ghost use Rattle.store_points.specs.Storable.{Coverable, Linkable, Growable};
 ghost use Rattle.store_points.specs.Stages.{covered, linked, ported};
 ghost use Rattle.store_links.specs.Opening.{open_arrays, open_counts};
@@ -87,7 +87,7 @@ fn three<T: Copy>(list: &mut [T], a: T, b: T, c: T)
 // The three points and lines of a drawing of that style as opened for n points at the scale s; a, b and c are the entries of lines 1-2, 3-1 and 3-2.
 #[tactic(auto, unfolding(store_links::specs::Opening::open_arrays))]
 pub fn open_in(d: &mut Drawing, style: Style, n: usize, s: usize, a: u16, b: u16, c: u16)
-    requires { d.old ≡ blank }
+    requires { d.old.table ≡ zeros }
     ensures { (arrays_in d.new.table ≡ open_arrays style a b c) × (d.new.counts ≡ open_counts style n s) }
 {
     let x = third_x(style);
