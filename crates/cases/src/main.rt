@@ -49,12 +49,10 @@ fn run<R: Files, W: Write, V: Write>(rt: &R, name: &[u8], to: &mut W, errors: &m
     }
 }
 
-// Every case that a line names.
+// Every case that a line names, an empty line too; nothing behind the last line feed is no line.
 fn run_all<R: Files, W: Write, V: Write>(rt: &R, text: &[u8], to: &mut W, errors: &mut V) {
-    for name in text.split(|&b| b == b'\n') {
-        if !name.is_empty() {
-            run(rt, name, to, errors);
-        }
+    for line in text.split_inclusive(|&b| b == b'\n') {
+        run(rt, line.strip_suffix(b"\n").unwrap_or(line), to, errors);
     }
 }
 

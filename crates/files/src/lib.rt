@@ -25,12 +25,19 @@ pub enum FileError {
     NotWritten,
 }
 
+impl FileError {
+    // The line that stands behind the program's name, in one piece, so that one write can take it.
+    fn line(self) -> &'static str {
+        match self {
+            FileError::NotRead => ": the input could not be read\n",
+            FileError::NotWritten => ": not all of the output was written\n",
+        }
+    }
+}
+
 impl fmt::Display for FileError {
     fn fmt<W: fmt::Write>(&self, f: &mut fmt::Formatter<W>) -> fmt::Result {
-        match self {
-            FileError::NotRead => write!(f, "the input could not be read"),
-            FileError::NotWritten => write!(f, "not all of the output was written"),
-        }
+        f.write_str(self.line().trim_matches([':', ' ', '\n']))
     }
 }
 
@@ -68,11 +75,19 @@ pub fn read_input<R: Read>(from: &mut R, buffer: &mut [u8]) -> Result<usize, Rea
     Ok(bytes)
 }
 
-// Writes the bytes, to standard output in the programs.
+// Writes the bytes, to standard output in the programs. A write that fails or takes nothing ends it.
+// The loop is written out, since the library's `write_all` tries an interrupted write again, and so for ever with a writer that is always interrupted.
 pub fn print<W: Write>(to: &mut W, bytes: &[u8]) -> Result<(), FileError>
     ensures { OnOk result (Appends (W.contents to.old) (W.contents to.new) bytes.now) }
 {
-    to.write_all(bytes).map_err(|_| FileError::NotWritten)
+    let mut done = 0;
+    while done < bytes.len() {
+        match to.write(&bytes[done..]) {
+            Ok(0) | Err(_) => return Err(FileError::NotWritten),
+            Ok(more) => done += more,
+        }
+    }
+    Ok(())
 }
 
 // The drawing program of a style, from a file that is open to a writer.
@@ -102,6 +117,6 @@ pub fn undraw<R: Read, W: Write>(style: Style, from: &mut R, to: &mut W) -> Resu
 pub fn report<W: Write>(program: &[u8], outcome: Result<(), FileError>, to: &mut W) {
     if let Err(error) = outcome {
         let _ = print(to, program);
-        let _ = writeln!(to, ": {error}");
+        let _ = print(to, error.line().as_bytes());
     }
 }
