@@ -1,8 +1,9 @@
 -- Where a move is found: in which line, and how many moves stand before that line's.
-use Rattle.std.specs.Prelude.{ℕ, ◌+◌, ◌*◌, ◌<◌, ◌≤◌, ◌≡◌, length, Option, Some, None}
+use Rattle.std.specs.Prelude.{ℕ, ◌+◌, ◌*◌, ◌<◌, ◌≤◌, ◌≡◌, List, length, Option, Some, None}
 use Rattle.std.proofs.Common.{sym, ap, ◌∙◌, add-one, arith, length-append}
 use Rattle.rules.specs.Points.{Drawing as Plan, line_at}
 use Rattle.rules.specs.Moves.{Tool as WholeTool, moves_of, all_moves}
+use Rattle.promise.proofs.Bounds.{lines_most}
 use Rattle.store_links.specs.declared.Counts.{Counts}
 use Rattle.store_links.specs.Arrays.{Arrays}
 use Rattle.store_laws.specs.Adding.{Holds}
@@ -10,6 +11,7 @@ use Rattle.store_tables.specs.declared.Drawing.{Drawing}
 use Rattle.store_laws.specs.Stored.{Is}
 use Rattle.tool.specs.declared.Numbers.{Numbers}
 use Rattle.tool.specs.Checking.{tool_of}
+use Rattle.drawing.specs.Places.{PlacedIn}
 use Rattle.cutter_lines.specs.declared.Groove.{Groove}
 use Rattle.cutter_lines.specs.Grooves.{total}
 use Rattle.cutter_grooves.specs.Grooves.{groove_of, groove_count}
@@ -31,6 +33,10 @@ Finds q t i None = length (all_moves q t) ≤ i
 -- a buffer has room for all kinds, and one for all numbers
 abbrev pub RoomIn : Drawing → Numbers → ℕ → ℕ → Type 0
 RoomIn d t kinds numbers = (q : Plan) → Is q d → (length (all_moves q (tool_of t)) ≤ kinds) × (2 * length (all_moves q (tool_of t)) ≤ numbers)
+
+-- A drawing has few lines.
+pub few-lines : {d : Drawing} {x : List ℕ} → PlacedIn d x → d.counts.lines ≤ 3067
+few-lines p = omega (arith, lines_most _ p.came.is.standing, p.came.is.stores.lines)
 
 -- What is counted of a line is how many moves it gives.
 pub total_is : (q : Plan) (t : WholeTool) (e : ℕ) (g : Groove) → g ≡ groove_of q (line_at q e) → 1 ≤ q.s → 1 ≤ t.pitch → total g ≡ length (moves_of q t (line_at q e))

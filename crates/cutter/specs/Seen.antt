@@ -1,8 +1,8 @@
 -- What the calls answer, against the rules: a move in f32 with no error, or the same refusal; and how many moves there are.
-use Rattle.std.specs.Prelude.{ℕ, ◌-◌, ◌<◌, ◌≤◌, ◌≡◌, refl, length, get_or, ltb, Ok, Err}
+use Rattle.std.specs.Prelude.{ℕ, ◌-◌, ◌<◌, ◌≤◌, ◌≡◌, refl, length, get_or, ltb, None, Ok, Err}
 use Rattle.std.proofs.Common.{arith, sym, ap, subst, ◌∙◌, lt-ltb, le-ltb}
 use Rattle.rules.specs.declared.Refused.{Refused}
-use Rattle.rules.specs.declared.Refusal.TheVariants.{Unfinished, NoSuch}
+use Rattle.rules.specs.declared.Refusal.TheVariants.{BadTool, Unfinished, NoSuch}
 use Rattle.rules.specs.Refusals.{Result, good, Answer, refusal_at, Told, gives, refused_with, told, ◌>>◌, refuse_if}
 use Rattle.rules.specs.Points.{Drawing as Plan, line_at}
 use Rattle.rules.specs.Moves.{Tool as WholeTool, Move as WholeMove, lift, moves_of, all_moves, move_at}
@@ -12,8 +12,9 @@ use Rattle.store_links.specs.Arrays.{Arrays}
 use Rattle.store_laws.specs.Adding.{Holds}
 use Rattle.tool.specs.declared.Tool.{Tool}
 use Rattle.tool.specs.declared.Move.{Move}
-use Rattle.tool.specs.Checking.{whole_tool}
+use Rattle.tool.specs.Checking.{whole_tool, checked_of}
 use Rattle.tool.specs.Showing.{IsMove}
+use Rattle.tool.specs.Laws as Laws
 use Rattle.answers.specs.Told.{told_move, told_count}
 use Rattle.cutter_lines.specs.declared.Groove.{Groove}
 use Rattle.cutter_lines.specs.declared.Setting.{Setting}
@@ -40,6 +41,10 @@ abbrev pub move_count : Plan → WholeTool → Result ℕ
 move_count q t = do
   refuse_if (ltb q.k q.n) Unfinished 0
   good (length (all_moves q t))
+
+-- 12
+pub seen_bad : (q : Plan) (t : Tool) (i : ℕ) → checked_of t ≡ None → MoveSeen (Err (refusal_at BadTool 0)) (move_at q (whole_tool t) i)
+seen_bad q t i e = rw (bad_tool q (whole_tool t) i (Laws.bad_tool t e)) (refl, refl)
 
 module _ {q : Plan} {a : Arrays} {c : Counts} (h : Holds q a c) where
   -- a drawing is finished, or not, by the stored numbers

@@ -1,8 +1,8 @@
 -- The files of a drawing, finished or not.
-use Rattle.std.specs.Prelude.{ℕ, ◌≤◌, ◌≡◌, List, ltb}
-use Rattle.std.proofs.Common.{arith, le-ltb}
+use Rattle.std.specs.Prelude.{ℕ, ◌<◌, ◌≤◌, ◌≡◌, List, ltb}
+use Rattle.std.proofs.Common.{arith, lt-ltb, le-ltb}
 use Rattle.rules.specs.declared.Refusal.TheVariants.{Unfinished}
-use Rattle.rules.specs.Refusals.{Result, good, refuse_if, ◌>>◌}
+use Rattle.rules.specs.Refusals.{Result, good, refused, refuse_if, ◌>>◌}
 use Rattle.rules.specs.Points.{Drawing as Plan}
 use Rattle.rules.specs.OrderFile.{write_order}
 use Rattle.store_tables.specs.declared.Drawing.{Drawing}
@@ -20,6 +20,10 @@ whole_order d = do
   good (write_order d)
 
 module _ {q : Plan} {a : Arrays} {c : Counts} (t : Holds q a c) where
+  -- no file yet
+  pub early : {A : Type 0} (wanted : Result A) → c.k < c.n → (refuse_if (ltb q.k q.n) Unfinished 0 >> wanted) ≡ refused Unfinished 0
+  early wanted h = rw (lt-ltb q.k q.n (omega (arith, t.stores.k, t.stores.n)))
+
   -- the file
   pub late : {A : Type 0} (wanted : Result A) → c.n ≤ c.k → (refuse_if (ltb q.k q.n) Unfinished 0 >> wanted) ≡ wanted
   late wanted h = rw (le-ltb q.k q.n (omega (arith, t.stores.k, t.stores.n)))

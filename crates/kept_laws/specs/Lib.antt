@@ -1,0 +1,9 @@
+pub mod Plane
+pub mod Words
+pub mod CallsWords
+pub mod Tool
+pub mod StoreTables
+pub mod StoreLooking
+pub mod PrintingWords
+pub mod PrintingMove
+pub mod PrintingImport
