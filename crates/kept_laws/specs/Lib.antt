@@ -7,3 +7,4 @@ pub mod StoreLooking
 pub mod PrintingWords
 pub mod PrintingMove
 pub mod PrintingImport
+pub mod CutterLists
