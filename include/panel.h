@@ -6,7 +6,7 @@
    Lengths count bytes, or 16-bit words or floats where the pointer is one to these. No pointer may be null, also with length 0.
    What a function writes to (`out`, `order` and `vertices` of `panel_import`, `answers`, `kinds`, `at`, `place`, `line`,
    `refusal`) may not overlap anything else that it is given.
-   A call takes no heap and at most 96 KB of stack, the same for every n. Nothing is kept from one call to the next.
+   A call takes no heap and at most 80 KB of stack, the same for every n. Nothing is kept from one call to the next.
 
    Every call fills `refusal`, with zeros if nothing is refused.
    A refusal leaves `out`, `order`, `vertices`, `kinds`, `at`, `place` and `line` as they were. In the functions on lists of
