@@ -6,16 +6,6 @@ use Rattle.store_links.specs.declared.Spot.{Spot}
 use Rattle.store_links.specs.Arrays.{Arrays, at_point}
 use Rattle.store_links.specs.Storing.{put_at, covered_gaps, covered_owners}
 
--- a point's gap and owner, or two numbers of a neighbour
-abbrev pub hung_in : Arrays → ℕ → ℕ → ℕ → Arrays
-hung_in a q g v = record a { gap = put_at a.gap q g; owner = put_at a.owner q v }
-
-abbrev pub left_in : Arrays → ℕ → ℕ → ℕ → Arrays
-left_in a wl n r = record a { next = put_at a.next wl n; drs = put_at a.drs wl r }
-
-abbrev pub right_in : Arrays → ℕ → ℕ → ℕ → Arrays
-right_in a wr g l = record a { gap = put_at a.gap wr g; dls = put_at a.dls wr l }
-
 -- the inner points are covered by point v
 abbrev pub covered : Arrays → List ℕ → Spot → ℕ → ℕ → Arrays
 covered a es p v i = record a { gap = covered_gaps a.gap es p i; owner = covered_owners a.owner es v i }

@@ -9,7 +9,7 @@ ghost use Rattle.store_links.specs.Placing.{inner_count};
 ghost use Rattle.store_links.specs.Storing.{put_at};
 ghost use Rattle.store_tables.specs.Tables.{arrays_in, zeros};
 ghost use Rattle.store_points.specs.Storable.{Coverable, Linkable, Growable};
-ghost use Rattle.store_points.specs.Stages.{hung_in, left_in, right_in, covered, linked, ported};
+ghost use Rattle.store_points.specs.Stages.{covered, linked, ported};
 ghost use Rattle.store_links.specs.Opening.{open_arrays, open_counts};
 
 use rules::{Bend, Style};
@@ -17,37 +17,6 @@ use store_links::{Counts, GAP_OFFSET, Spot, line_of};
 use store_tables::{Drawing, NO_POINT, Point, Table};
 use styles::{bent, second_x, taken, third_x, third_y};
 use words::point_of;
-
-// A covered point: its gap, and its owner.
-// Here and below two numbers are stored and not the whole point: a point that was stored by its numbers waits for all of them where it is read whole, in each call anew.
-fn hang(table: &mut Table, q: usize, gap: u16, owner: u16)
-    requires { (0 < q) × (q ≤ 1024) }
-    ensures { arrays_in table.new ≡ hung_in (arrays_in table.old) q gap owner }
-{
-    let i = q - 1;
-    table.points[i].gap = gap;
-    table.points[i].owner = owner;
-}
-
-// The left neighbour of the new point: the point after it on the boundary, and its right count.
-fn link_left(table: &mut Table, wl: usize, next: u16, rights: u16)
-    requires { (0 < wl) × (wl ≤ 1024) }
-    ensures { arrays_in table.new ≡ left_in (arrays_in table.old) wl next rights }
-{
-    let i = wl - 1;
-    table.points[i].next = next;
-    table.points[i].dr = rights;
-}
-
-// The right one: its gap, and its left count.
-fn link_right(table: &mut Table, wr: usize, gap: u16, lefts: u16)
-    requires { (0 < wr) × (wr ≤ 1024) }
-    ensures { arrays_in table.new ≡ right_in (arrays_in table.old) wr gap lefts }
-{
-    let i = wr - 1;
-    table.points[i].gap = gap;
-    table.points[i].dl = lefts;
-}
 
 // The inner points of the run get the new point v as their owner, and their gaps count from it.
 // By index, as its definition.
@@ -61,7 +30,12 @@ pub fn cover(e: &[u16], table: &mut Table, p: Spot, v: u16)
         let q = point_of(e[i + 1]);
         let inner = table.point(q);
         far += usize::from(inner.gap);
-        hang(table, q, (far + p.s1 + GAP_OFFSET - p.dx) as u16, v);
+        let covered = Point {
+            gap: (far + p.s1 + GAP_OFFSET - p.dx) as u16,
+            owner: v,
+            ..inner
+        };
+        table.put(q, covered);
     }
 }
 
@@ -84,8 +58,18 @@ pub fn link(table: &mut Table, style: Style, v: usize, wl: usize, wr: usize, p: 
         h: p.h as u16,
     };
     table.put(v, new);
-    link_left(table, wl, v as u16, rights);
-    link_right(table, wr, p.rest as u16, lefts);
+    let left = Point {
+        next: v as u16,
+        dr: rights,
+        ..table.point(wl)
+    };
+    table.put(wl, left);
+    let right = Point {
+        gap: p.rest as u16,
+        dl: lefts,
+        ..table.point(wr)
+    };
+    table.put(wr, right);
     (rights, lefts)
 }
 

@@ -9,6 +9,7 @@ use Rattle.store_tables.specs.Columns.{point_at}
 use Rattle.store_points.specs.Storable.{Coverable}
 use Rattle.store_points.specs.Stages.{covered}
 use Rattle.store_points.proofs.Covering.{Turn, turn-way, turn_near, cover_more}
+use Rattle.store_points.proofs.Linking.{recovered}
 use Rattle.store_points.proofs.cover.Goals as goal
 
 -- a turn, once the point x is read, and its gap
@@ -23,16 +24,16 @@ loop-i-init c = (refl, refl)
 pub overflow_add-far : goal.overflow_add-far
 overflow_add-far c = omega (arith, turn_near (turn c.requires (omega arith) c.loop-i.invariant c.point_of-q.ensures c.point-inner.ensures c.from-far.ensures))
 
-pub overflow_add-far-in-loop-i : goal.overflow_add-far-in-loop-i
-overflow_add-far-in-loop-i c = omega (arith, turn_near (turn c.requires (omega arith) c.loop-i.invariant c.point_of-q.ensures c.point-inner.ensures c.from-far.ensures))
+pub overflow_add-covered : goal.overflow_add-covered
+overflow_add-covered c = omega (arith, turn_near (turn c.requires (omega arith) c.loop-i.invariant c.point_of-q.ensures c.point-inner.ensures c.from-far.ensures))
 
-pub overflow_add-far-in-loop-i-2 : goal.overflow_add-far-in-loop-i-2
-overflow_add-far-in-loop-i-2 c = omega (arith, turn_near (turn c.requires (omega arith) c.loop-i.invariant c.point_of-q.ensures c.point-inner.ensures c.from-far.ensures))
+pub overflow_add-covered-in-loop-i : goal.overflow_add-covered-in-loop-i
+overflow_add-covered-in-loop-i c = omega (arith, turn_near (turn c.requires (omega arith) c.loop-i.invariant c.point_of-q.ensures c.point-inner.ensures c.from-far.ensures))
 
-pub overflow_cast-far : goal.overflow_cast-far
-overflow_cast-far c = omega (arith, turn_near (turn c.requires (omega arith) c.loop-i.invariant c.point_of-q.ensures c.point-inner.ensures c.from-far.ensures))
+pub overflow_cast-covered : goal.overflow_cast-covered
+overflow_cast-covered c = omega (arith, turn_near (turn c.requires (omega arith) c.loop-i.invariant c.point_of-q.ensures c.point-inner.ensures c.from-far.ensures))
 
 pub loop-i-preserved : goal.loop-i-preserved
 loop-i-preserved c =
     let t = turn c.requires (omega arith) c.loop-i.invariant c.point_of-q.ensures c.point-inner.ensures c.from-far.ensures in
-    (turn-way t, c.hang.ensures ∙ cover_more t)
+    (turn-way t, c.put.ensures ∙ recovered _ c.point_of-q.result c.point-inner.ensures _ _ ∙ cover_more t)
