@@ -48,6 +48,8 @@ fn ports_over(style: Style, e: &[u16], table: &Table, p: Spot) -> Option<usize>
 }
 
 // Adds a point with the entries e as its earlier neighbours; or refuses and leaves the drawing as it is.
+// Not taken into a loop over calls, where it would have fewer registers.
+#[inline(never)]
 pub fn add(d: &mut Drawing, e: &[u16]) -> Answer<()>
     requires { Stored d.old }
     ensures { Answered d.old e.now d.new result }

@@ -55,7 +55,7 @@ pub fn link(table: &mut Table, style: Style, v: usize, wl: usize, wr: usize, p: 
         y: p.y as u16,
         dl: 0,
         dr: 0,
-        h: p.h as u16,
+        h: p.h as u32,
     };
     table.put(v, new);
     let left = Point {

@@ -76,21 +76,22 @@ pub struct View<'a> {
 }
 
 // Where a line bends, from the places of now.
+// The later point's own port first: one `match` over all four would be a jump by a table, which a processor can't foretell.
 pub fn bend_of(view: &View, l: Line) -> Place
     requires { Bendable view.now.x.now (arrays_in view.now.drawing.now.table) l.later l.earlier l.bend }
     ensures { result ≡ bend_in view.now.x.now (arrays_in view.now.drawing.now.table) l.later l.earlier l.bend }
 {
-    let later = usize::from(l.later);
+    if let Bend::Middle(i) = l.bend {
+        let later = usize::from(l.later);
+        let to = view.drawing.table.point(later);
+        return middle_port(view.x[later - 1], to.y, to.h as u16, i);
+    }
     let earlier = usize::from(l.earlier);
     let from = view.drawing.table.point(earlier);
     let x = view.x[earlier - 1];
     match l.bend {
-        Bend::NoBend => Place { x, y: from.y },
         Bend::Left(j) => left_port(x, from.y, from.dl, j),
         Bend::Right(j) => right_port(x, from.y, from.dr, j),
-        Bend::Middle(i) => {
-            let to = view.drawing.table.point(later);
-            middle_port(view.x[later - 1], to.y, to.h, i)
-        }
+        Bend::NoBend | Bend::Middle(_) => Place { x, y: from.y },
     }
 }

@@ -15,6 +15,7 @@ pub const LINES: usize = 3 * POINTS;
 
 // What the table keeps of a point. Crate `store_links` says what each number is.
 // Points name each other by number, 0 where there is none, as the rules' owners do; an Option would be told from that in every law, and a blank table would not be all zeros.
+// h is small too; it has 32 bits so that a point has 16 bytes, and its place in the table is got by one shift.
 #[derive(Clone, Copy, Debug, PartialEq, Eq)]
 pub struct Point {
     pub next: u16,
@@ -23,7 +24,7 @@ pub struct Point {
     pub y: u16,
     pub dl: u16,
     pub dr: u16,
-    pub h: u16,
+    pub h: u32,
 }
 
 // The points and the lines of a drawing.
