@@ -11,11 +11,11 @@ use Rattle.rules.specs.Styles.{drawing_mark}
 use Rattle.store_links.specs.declared.Counts.{Counts}
 use Rattle.store_links.specs.Arrays.{Arrays}
 use Rattle.store_links.specs.Opening.{no_line}
-use Rattle.write_drawings.specs.Lists.{several, point_bytes, bend_at, line_bytes, head_bytes, file_bytes}
+use Rattle.write_drawings.specs.Lists.{several, starting, point_bytes, bend_at, line_bytes, head_bytes, file_bytes}
 use Rattle.pages.specs.declared.Page.{Page}
 use Rattle.pages.specs.Pages.{Grown, grown_both}
 use Rattle.write_drawings.specs.Stores.{length-several}
-use Rattle.write_drawings.specs.Files.{length-line}
+use Rattle.write_drawings.specs.Files.{length-line, from_first}
 
 -- The numbers that are written are the line's record, with its bend
 pub line-put : (xs : List ℕ) (a : Arrays) (s e : ℕ) {τ : Style} {l : Line} {place : Place} {x y field : ℕ} {page after : Page} → τ ≡ OneBend → l ≡ get_or a.lines e no_line →
@@ -44,8 +44,8 @@ point-put s xs ys i x y h = rw (x, y) at h
 pub points_end : (s : ℕ) (xs ys : List ℕ) (k : ℕ) {page after : Page} → Grown page (several (point_bytes s xs ys) k) after → after.at ≡ page.at + place_size * k
 points_end s xs ys k p = omega (arith, p.at, length-several (point_bytes s xs ys) place_size (λ i. refl) k)
 
-pub lines_end : (τ : Style) (s : ℕ) (xs : List ℕ) (a : Arrays) (k : ℕ) {page after : Page} → Grown page (several (line_bytes τ s xs a) k) after → after.at ≡ page.at + line_size τ * k
-lines_end τ s xs a k p = omega (arith, p.at, length-several (line_bytes τ s xs a) (line_size τ) (length-bytes τ s xs a) k)
+pub lines_end : (τ : Style) (s : ℕ) (xs : List ℕ) (a : Arrays) (i k : ℕ) {page after : Page} → Grown page (several (starting (line_bytes τ s xs a) i) k) after → after.at ≡ page.at + line_size τ * k
+lines_end τ s xs a i k p = omega (arith, p.at, length-several (starting (line_bytes τ s xs a) i) (line_size τ) (λ j. length-bytes τ s xs a (i + j)) k)
 
 -- The header and the points, one behind the other, are the file's start,
 pub head-put : (xs : List ℕ) (a : Arrays) (c : Counts) {mark width top height : ℕ} {p₀ p₁ p₂ : Page} → mark ≡ drawing_mark c.style →
@@ -63,6 +63,6 @@ length-head xs a c =
 
 -- It, the lines and the end mark are the file.
 pub file-put : (xs : List ℕ) (a : Arrays) (c : Counts) {p₀ p₁ p₂ p₃ : Page} → Grown p₀ (head_bytes xs a c) p₁ →
-    Grown p₁ (several (line_bytes c.style c.s xs a) c.lines) p₂ → Grown p₂ (bytes_of (end_mark ∷ [])) p₃ → Grown p₀ (file_bytes xs a c) p₃
+    Grown p₁ (several (starting (line_bytes c.style c.s xs a) 0) c.lines) p₂ → Grown p₂ (bytes_of (end_mark ∷ [])) p₃ → Grown p₀ (file_bytes xs a c) p₃
 unfolding file_bytes
-file-put xs a c head lines end = grown_both head (grown_both lines end)
+file-put xs a c head lines end = grown_both head (grown_both (rw (from_first (line_bytes c.style c.s xs a) c.lines) at lines) end)

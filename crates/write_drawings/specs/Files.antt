@@ -17,7 +17,7 @@ use Rattle.promise.specs.Standing.{Standing}
 use Rattle.store_settling.specs.Bending.{Shows, shows_of, bend_right}
 use Rattle.store_links.specs.Opening.{no_line}
 use Rattle.store_settling.specs.Lines as Lines
-use Rattle.write_drawings.specs.Lists.{several, point_bytes, bend_at, line_bytes, head_bytes, file_bytes}
+use Rattle.write_drawings.specs.Lists.{several, starting, point_bytes, bend_at, line_bytes, head_bytes, file_bytes}
 use Rattle.write_drawings.specs.Stores.{length-several}
 use Rattle.write_drawings.specs.Finished.{Finished}
 
@@ -34,6 +34,10 @@ several_same : (f g : ℕ → List ℕ) (n : ℕ) → ((i : ℕ) → i < n → f
 unfolding several
 several_same f g zero h = refl
 several_same f g (suc n) h = ap₂ (λ (s t : List ℕ). s ++ t) (several_same f g n (λ i b. h i (omega arith))) (h n (omega arith))
+
+-- Records from the first on are all of them.
+pub from_first : (f : ℕ → List ℕ) (n : ℕ) → several (starting f 0) n ≡ several f n
+from_first f n = several_same (starting f 0) f n (λ i b. ap f (let e : 0 + i ≡ i = omega arith in e))
 
 -- The point records are those of the points.
 points_are : (s : ℕ) (xs ys : List ℕ) → length xs ≡ length ys → write_points s xs ys ≡ several (point_bytes s xs ys) (length xs)

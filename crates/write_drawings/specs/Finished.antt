@@ -58,8 +58,8 @@ pub record LineReady (τ : Style) (x : List ℕ) (a : Arrays) (s e at : ℕ) (bu
   pub fits : LineFits x a s (get_or a.lines e no_line)
   pub room : at + line_size τ ≤ length buffer
 
--- so are the first `count` lines
-pub record LinesReady (τ : Style) (x : List ℕ) (a : Arrays) (s count at : ℕ) (buffer : List ℕ) : Type 0 where
-  pub few : count ≤ 3072
-  pub fits : (e : ℕ) → e < count → LineFits x a s (get_or a.lines e no_line)
+-- so are `count` lines from line `from` on
+pub record LinesReady (τ : Style) (x : List ℕ) (a : Arrays) (s from count at : ℕ) (buffer : List ℕ) : Type 0 where
+  pub few : from + count ≤ 3072
+  pub fits : (i : ℕ) → i < count → LineFits x a s (get_or a.lines (from + i) no_line)
   pub room : at + line_size τ * count ≤ length buffer

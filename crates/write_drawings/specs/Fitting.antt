@@ -10,7 +10,6 @@ use Rattle.store_links.specs.Arrays.{Arrays}
 use Rattle.promise.proofs.Bounds.{width_most, lines_most, place_most, bend_most}
 use Rattle.store_settling.specs.Bending.{bendable_of}
 use Rattle.rules.specs.Records.{head_size, place_size, line_size}
-use Rattle.store_links.specs.Opening.{no_line}
 use Rattle.write_drawings.specs.Finished.{Finished, Held, Writable, PointsReady, LineFits, LinesReady}
 use Rattle.write_drawings.specs.Files.{length-file, shows, x_is, y_is, line_is, bend_is, file_is}
 
@@ -68,14 +67,14 @@ module _ {d : Drawing} {x : List ℕ} {a : Arrays} {c : Counts} (h : Finished d 
         up = rw (bend_is h e el) (scaled (omega (arith, t.1)));
       }
 
-  pub lines-ready : (at : ℕ) (buffer : List ℕ) → at + line_size c.style * c.lines ≤ length buffer → LinesReady c.style x a c.s c.lines at buffer
-  lines-ready at buffer room =
+  pub lines-ready : (from count at : ℕ) (buffer : List ℕ) → from + count ≤ c.lines → at + line_size c.style * count ≤ length buffer → LinesReady c.style x a c.s from count at buffer
+  lines-ready from count at buffer b room =
       record {
-        few = few-lines;
+        few = omega (arith, few-lines, b);
         fits =
-            λ e b.
-            let el = rw h.holds.stores.lines at b in
-            subst (λ (l : Line). LineFits x a c.s l) (sym (line_is h e el)) (line_fits e el);
+            λ i il.
+            let el : from + i < length d.lines = omega (arith, h.holds.stores.lines, b) in
+            subst (λ (l : Line). LineFits x a c.s l) (sym (line_is h (from + i) el)) (line_fits (from + i) el);
         room = room;
       }
 
@@ -103,9 +102,3 @@ has_room w h = omega (arith, ap length (file_is h), ap length (file_is w.finishe
 -- A finished drawing can be written where its file is as long as the buffer.
 pub enough : {x : List ℕ} {a : Arrays} {c : Counts} (h : Held x a c) → Writable x a c (drawing_bytes h.d)
 enough h = record { d = h.d; finished = h.finished; room = omega arith }
-
--- The records of all its points and lines fit.
-pub line-ready : {x : List ℕ} {a : Arrays} {c : Counts} → Held x a c → (e : ℕ) → e < c.lines → (e < 3072) × LineFits x a c.s (get_or a.lines e no_line)
-line-ready {x} {a} {c} h e b =
-    let l = lines-ready h.finished 0 (drawing_bytes h.d) (omega (arith, (ready (enough h)).room)) in
-    (omega (arith, l.few), l.fits e b)

@@ -1,5 +1,5 @@
 -- The drawing file as the settled x and the arrays give it, in either style: each record's bytes.
-use Rattle.std.specs.Prelude.{ℕ, zero, suc, ◌*◌, List, [], ◌∷◌, ◌++◌, get_or, take}
+use Rattle.std.specs.Prelude.{ℕ, zero, suc, ◌+◌, ◌*◌, List, [], ◌∷◌, ◌++◌, get_or, take}
 use Rattle.rules.specs.declared.Style.{Style}
 use Rattle.rules.specs.declared.Line.{Line}
 use Rattle.rules.specs.declared.Place.{Place}
@@ -14,6 +14,10 @@ use Rattle.store_links.specs.Opening.{no_line}
 unfoldable pub several : (ℕ → List ℕ) → ℕ → List ℕ
 several f zero = []
 several f (suc i) = several f i ++ f i
+
+-- f from i on
+abbrev pub starting : (ℕ → List ℕ) → ℕ → ℕ → List ℕ
+starting f i j = f (i + j)
 
 -- the record of the point at index i
 abbrev pub point_bytes : ℕ → List ℕ → List ℕ → ℕ → List ℕ

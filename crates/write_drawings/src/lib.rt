@@ -2,18 +2,17 @@
 // For `write_files`: it asks for a finished drawing and, to write, room in the buffer, which are tested there.
 #![tactic(auto)]
 
-ghost use Rattle.std.specs.Prelude.{◌≡◌, ◌*◌, ◌<◌, ◌≤◌, [], ◌∷◌, length, drop, get_or};
+ghost use Rattle.std.specs.Prelude.{◌≡◌, ◌+◌, ◌*◌, ◌<◌, ◌≤◌, [], ◌∷◌, length, drop};
 ghost use Rattle.rules.specs.Points.{Drawing as Plan};
 ghost use Rattle.rules.specs.Refusals.{good, answer};
 ghost use Rattle.rules.specs.DrawingFile.{highest, drawing_bytes, compare_bytes};
 ghost use Rattle.rules.specs.Output.{filled};
 ghost use Rattle.rules.specs.Records.{bytes_of, end_mark};
-ghost use Rattle.store_links.specs.Opening.{no_line};
 ghost use Rattle.store_tables.specs.Tables.{arrays_in, ys};
 ghost use Rattle.read_comparing.specs.Parts.{part_compared};
-ghost use Rattle.write_drawings.specs.Lists.{several, point_bytes, line_bytes, head_bytes};
+ghost use Rattle.write_drawings.specs.Lists.{several, starting, point_bytes, line_bytes, head_bytes};
 ghost use Rattle.pages.specs.Pages.{Grown};
-ghost use Rattle.write_drawings.specs.Finished.{Finished, Held, Writable, PointsReady, HeadReady, LineFits, LineReady, LinesReady};
+ghost use Rattle.write_drawings.specs.Finished.{Finished, Held, Writable, PointsReady, HeadReady, LineReady, LinesReady};
 
 use pages::Page;
 use read_comparing::{compare_end, compare_part};
@@ -61,6 +60,7 @@ fn write_points(page: &mut Page<'_>, view: &View)
 }
 
 // Puts the record of line e there.
+#[inline(always)]
 fn write_line(page: &mut Page<'_>, view: &View, e: usize)
     requires { let d = view.now.drawing.now in
         LineReady d.counts.style view.now.x.now (arrays_in d.table) d.counts.s e page.old.at page.old.bytes.now }
@@ -81,15 +81,17 @@ fn write_line(page: &mut Page<'_>, view: &View, e: usize)
     }
 }
 
-// Puts the records of all lines there.
-fn write_lines(page: &mut Page<'_>, view: &View)
+// Puts the records of `count` lines there, from line `from` on.
+// It and `write_line` are taken into the callers, which have the page: its place is then no word in memory that each number waits for.
+#[inline(always)]
+fn write_lines(page: &mut Page<'_>, view: &View, from: usize, count: usize)
     requires { let d = view.now.drawing.now in
-        LinesReady d.counts.style view.now.x.now (arrays_in d.table) d.counts.s d.counts.lines page.old.at page.old.bytes.now }
+        LinesReady d.counts.style view.now.x.now (arrays_in d.table) d.counts.s from count page.old.at page.old.bytes.now }
     ensures { let d = view.now.drawing.now in
-        Grown page.old (several (line_bytes d.counts.style d.counts.s view.now.x.now (arrays_in d.table)) d.counts.lines) page.new }
+        Grown page.old (several (starting (line_bytes d.counts.style d.counts.s view.now.x.now (arrays_in d.table)) from) count) page.new }
 {
-    for e in 0..view.drawing.counts.lines {
-        write_line(page, view, e);
+    for i in 0..count {
+        write_line(page, view, from + i);
     }
 }
 
@@ -116,7 +118,7 @@ pub fn write_drawing(out: &mut [u8], view: &View)
 {
     let mut page = Page::new(out);
     write_head(&mut page, view);
-    write_lines(&mut page, view);
+    write_lines(&mut page, view, 0, view.drawing.counts.lines);
     put_end(&mut page);
 }
 
@@ -136,16 +138,19 @@ fn compare_head(file: &[u8], view: &View) -> Answer<usize>
     compare_part(file, 0, &bytes[..length])
 }
 
-// Compares the bytes of a file from `at` on with the record of line e.
-fn compare_line(file: &[u8], at: usize, view: &View, e: usize) -> Answer<usize>
-    requires { let a = arrays_in view.now.drawing.now.table in
-        (at ≤ length file.now) × (e < 3072) × LineFits view.now.x.now a view.now.drawing.now.counts.s (get_or a.lines e no_line) }
+// How many lines are written and compared at once.
+const LINES_AT_ONCE: usize = 128;
+
+// Compares the bytes of a file from `at` on with the records of `count` lines, from line `from` on.
+fn compare_lines(file: &[u8], at: usize, view: &View, from: usize, count: usize) -> Answer<usize>
+    requires held { Held view.now.x.now (arrays_in view.now.drawing.now.table) view.now.drawing.now.counts }
+    requires part { (at ≤ length file.now) × (count ≤ 128) × (from + count ≤ view.now.drawing.now.counts.lines) }
     ensures { let d = view.now.drawing.now in
-        result ≡ part_compared file.now at (line_bytes d.counts.style d.counts.s view.now.x.now (arrays_in d.table) e) }
+        result ≡ part_compared file.now at (several (starting (line_bytes d.counts.style d.counts.s view.now.x.now (arrays_in d.table)) from) count) }
 {
-    let mut bytes = [0u8; LINE_SIZE];
+    let mut bytes = [0u8; LINE_SIZE * LINES_AT_ONCE];
     let mut page = Page::new(&mut bytes);
-    write_line(&mut page, view, e);
+    write_lines(&mut page, view, from, count);
     let length = page.at;
     compare_part(file, at, &bytes[..length])
 }
@@ -162,14 +167,19 @@ fn compare_last(file: &[u8], at: usize) -> Answer<()>
 }
 
 // Compares a file with the drawing file of a finished drawing, part by part as that is written, so that no call holds it whole: the project has no heap.
+// Each turn goes on by many lines and not by one, so a `for` is no plainer than this `while`.
 pub fn compare_drawing(file: &[u8], view: &View) -> Answer<()>
     requires { Held view.now.x.now (arrays_in view.now.drawing.now.table) view.now.drawing.now.counts }
     ensures { (p : Plan) → Finished p view.now.x.now (arrays_in view.now.drawing.now.table) view.now.drawing.now.counts →
         result ≡ answer (compare_bytes 0 file.now (drawing_bytes p)) }
 {
+    let lines = view.drawing.counts.lines;
     let mut at = compare_head(file, view)?;
-    for e in 0..view.drawing.counts.lines {
-        at = compare_line(file, at, view, e)?;
+    let mut from = 0;
+    while from < lines {
+        let count = LINES_AT_ONCE.min(lines - from);
+        at = compare_lines(file, at, view, from, count)?;
+        from += count;
     }
     compare_last(file, at)
 }

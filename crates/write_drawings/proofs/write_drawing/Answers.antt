@@ -15,7 +15,7 @@ write_lines-requires c =
     let v = c.args.view.now in
     let head = c.write_head.ensures in
     let long = length-head v.x.now (arrays_in v.drawing.now.table) v.drawing.now.counts in
-    lines-ready c.requires.finished _ _ (omega (arith, c.new-page.ensures.at, ap length c.new-page.ensures.bytes, head.at, head.size, long, (ready c.requires).room))
+    lines-ready c.requires.finished 0 _ _ _ (omega arith) (omega (arith, c.new-page.ensures.at, ap length c.new-page.ensures.bytes, head.at, head.size, long, (ready c.requires).room))
 
 pub put_end-requires : goal.put_end-requires
 put_end-requires c =
@@ -24,7 +24,7 @@ put_end-requires c =
     let n = v.drawing.now.counts in
     let head = c.write_head.ensures in
     let lines = c.write_lines.ensures in
-    omega (arith, c.new-page.ensures.at, ap length c.new-page.ensures.bytes, head.at, head.size, length-head v.x.now t n, lines.size, lines_end n.style n.s v.x.now t n.lines lines, (ready c.requires).room)
+    omega (arith, c.new-page.ensures.at, ap length c.new-page.ensures.bytes, head.at, head.size, length-head v.x.now t n, lines.size, lines_end n.style n.s v.x.now t 0 n.lines lines, (ready c.requires).room)
 
 pub returns : goal.returns
 returns c = λ d f.
