@@ -1,6 +1,7 @@
 -- The test of a vertex that may come off, by where it stands on the boundary, and the test for chords.
 use Rattle.std.specs.Prelude.{ℕ, ◌+◌, ◌-◌, ◌<◌, ◌≤◌, ◌≡◌, ◌≢◌, refl, ◌⊎◌, List, Option, Some, None, Bool, true, false, ◌&&◌, ◌||◌, length, get_or, take, eqb, ltb}
 use Rattle.std.proofs.Common.{ap, sym, ◌∙◌, inl, inr, arith, eq-eqb, ne_eqb, eqb-true, lt-ltb, le-ltb}
+use Rattle.std.proofs.Math.Bool.{or-true}
 use Rattle.rules.specs.Basics.{index_of}
 use Rattle.planar_rules.specs.PlanarCode.{Flat, free?, open?}
 use Rattle.planar_choosing.specs.Rows.{Positions, found_index, index_some, row_some, row_inside}
@@ -39,11 +40,7 @@ module _ (b : List ℕ) (t u : ℕ) where
 
   module _ {l : ℕ} (at : found_index b u ≡ Some l) where
     pub no_chord_before : l + 1 ≡ t → true ≡ no_chord? b t u
-    no_chord_before e = sym (ap (λ (o : Option ℕ). beside? o t) at ∙ rw (eq-eqb (l + 1) t e) (or_true (eqb l (t + 1))))
-      where
-        or_true : (a : Bool) → (a || true) ≡ true
-        or_true true = refl
-        or_true false = refl
+    no_chord_before e = sym (ap (λ (o : Option ℕ). beside? o t) at ∙ rw (eq-eqb (l + 1) t e) (or-true (eqb l (t + 1))))
 
     pub no_chord_behind : l + 1 ≢ t → eqb l (t + 1) ≡ no_chord? b t u
     no_chord_behind d = sym (ap (λ (o : Option ℕ). beside? o t) at ∙ rw (ne_eqb (l + 1) t d) (or_false (eqb l (t + 1))))

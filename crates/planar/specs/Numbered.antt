@@ -45,7 +45,8 @@ records_in vs ver ln i (suc c) l =
         same_length [] = refl
         same_length (v ∷ es) = ap suc (same_length es)
 
-vertices_in : (ver ln : List ℕ) (i c : ℕ) (l : List ℕ) → i + c ≤ length ver → vertices (points_in ver ln i c l) ≡ take c (drop i ver)
+-- The vertices of the points from i on.
+pub vertices_in : (ver ln : List ℕ) (i c : ℕ) (l : List ℕ) → i + c ≤ length ver → vertices (points_in ver ln i c l) ≡ take c (drop i ver)
 unfolding points_in
 vertices_in ver ln i zero l p = refl
 vertices_in ver ln i (suc c) l p =

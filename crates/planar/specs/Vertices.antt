@@ -1,6 +1,6 @@
 -- The vertices of a net that is taken are below n: all entries, and those in the array of points.
-use Rattle.std.specs.Prelude.{ℕ, zero, suc, ◌+◌, ◌<◌, ◌≤◌, ◌≡◌, refl, List, [], ◌∷◌, map, length, get_or, take, drop, replicate}
-use Rattle.std.proofs.Common.{ap, sym, ◌∙◌, subst, arith, drop-cons, get_or-take}
+use Rattle.std.specs.Prelude.{ℕ, suc, ◌<◌, ◌≤◌, ◌≡◌, List, [], ◌∷◌, map, length, get_or, take, drop, replicate}
+use Rattle.std.proofs.Common.{ap, sym, ◌∙◌, subst, arith, get_or-take}
 use Rattle.std.proofs.lemmas.List.{length-replicate}
 use Rattle.planar_rules.specs.PlanarCode.{Flat, Point, points, vertices, vertex_list, first, second}
 use Rattle.planar_order.specs.Numbering.{AllLines, more as another}
@@ -8,9 +8,9 @@ use Rattle.planar_order.specs.Theorem.{Ordered}
 use Rattle.planar_reading.specs.Laws.{zeros}
 use Rattle.planar_reading.specs.Reads.{net_in}
 use Rattle.planar_reading.specs.declared.net.Net.{Net}
-use Rattle.planar_numbering.specs.Points.{points_in}
 use Rattle.planar_numbering.specs.Numbered.{AllNumbered}
 use Rattle.planar.specs.Net.{TakenIn, its_order}
+use Rattle.planar.specs.Numbered.{vertices_in}
 
 -- an array of so many zeros
 pub record Zeros (size : ℕ) (l : List ℕ) : Type 0 where
@@ -28,12 +28,6 @@ pub data Within (n : ℕ) : List Point → Type 0 where
 pub within-lines : (f : Flat) → ((d : ℕ) → d < f.D → f.nbr d < f.n) → (ps : List Point) → AllLines f ps → Within f.n ps
 within-lines f h [] a = none
 within-lines f h (p ∷ ps) (another l a) = more {p = p} (λ x xl. let w = l.is_line x xl in subst (λ v. v < f.n) w.3 (h w.0 w.1)) (within-lines f h ps a)
-
-vertices_in : (ver ln : List ℕ) (i c : ℕ) (l : List ℕ) → i + c ≤ length ver → vertices (points_in ver ln i c l) ≡ take c (drop i ver)
-unfolding points_in
-vertices_in ver ln i zero l p = refl
-vertices_in ver ln i (suc c) l p =
-    ap (λ t. get_or ver i 0 ∷ t) (vertices_in ver ln (suc i) c (drop (get_or ln i 0) l) (omega arith)) ∙ ap (take (suc c)) (sym (drop-cons ver i 0 (omega arith)))
 
 -- ---- the points of a net that is taken
 
